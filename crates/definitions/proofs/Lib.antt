@@ -1,0 +1,11 @@
+pub mod Rows
+pub mod Results
+pub mod Fields
+pub mod Runs
+pub mod Sheets
+pub mod Programs
+pub mod Contracts
+pub mod Demand3
+pub mod Meaning
+pub mod InstrTable
+pub mod Readings

@@ -1,0 +1,5 @@
+pub mod Fits
+pub mod Back
+pub mod RoundTrip
+pub mod Contents
+pub mod Lowered

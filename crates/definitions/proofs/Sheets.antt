@@ -1,0 +1,6 @@
+pub mod Fits
+pub mod Items
+pub mod Values
+pub mod Trees
+pub mod Passed
+pub mod Reads

@@ -1,0 +1,197 @@
+-- A sheet that passed the check, as a proof tree: no bound on calls from here on; and one step of the reader. Assumes nothing.
+use mathlib.Core.Path.{_≡_, refl, ap, ap₂, sym, _∙_, subst}
+use mathlib.Core.Bool.{Bool, true, false}
+use mathlib.Core.List.{List, [], _∷_}
+use Prim.Native.Nat.{ℕ, zero, suc, _+_, _-_, _*_, _/_, _%_, _<_, _≤_}
+use native.Mathlib.Nat.{not-suc-le-zero}
+use native.Mathlib.Omega.{arith}
+use lib.Dec.{leb, eqb}
+use borrow.Author.Tests.{leb-true, eqb-true, eqb-false, eq-eqb, ne-eqb}
+use Rattle.definitions.specs.Fields.{le}
+use Rattle.definitions.specs.Grammar.{Class, Entry, Field, Pattern, counted, listed, rows, single}
+use Rattle.definitions.specs.Records.{Bad, Form, Good, Next, Row, Start, Tree, Trees, after, andThen, checkRecords, checkRest, left, mayEnd, noRow, node, nothing, okItem, okItems, past, pastAll, pick, readNode, readRecords, readValues, recordsFrom, refused, row, rowFields, rowIn, sizeOf, startAt, startIf, startRow, starts, tcons, tnil, treesFrom}
+
+-- what holds of both arms holds of the pick
+pub picked : {A : Type 0} (P : A → Type 0) (b : Bool) (x y : A) → (b ≡ true → P x) → (b ≡ false → P y) → P (pick b x y)
+picked P true x y f g = f refl
+picked P false x y f g = g refl
+
+-- a place after a field: 0, or no lower than the field's own, and within the record
+abbrev Past : ℕ → ℕ → ℕ → Type 0
+Past at stop x = (x ≤ stop) × ((x ≡ 0 → ⊥) → at ≤ x)
+
+none-past : (at stop : ℕ) → Past at stop 0
+none-past at stop = (omega arith, λ z. absurd (z refl))
+
+field-past : (f : Field) (s : List ℕ) (stop at : ℕ) → at ≤ stop → Past at stop (past f s stop at)
+unfolding past
+field-past (single e) s stop at h =
+    picked (Past at stop) (leb (sizeOf e) (stop - at)) _ _
+    (λ r. picked (Past at stop) (okItem e s at) _ _ (λ _. let r' : sizeOf e ≤ stop - at = leb-true _ _ r in (omega arith, λ _. omega arith)) (λ _. none-past at stop))
+    (λ _. none-past at stop)
+field-past (counted e) s stop at h =
+    picked (Past at stop) (leb 2 (stop - at)) _ _
+    (λ r. picked (Past at stop) (leb (sizeOf e * le 2 s at) (stop - (at + 2))) _ _
+    (λ o. picked (Past at stop) (okItems e (le 2 s at) s (at + 2)) _ _
+    (λ _. let r' : 2 ≤ stop - at = leb-true _ _ r in let o' : sizeOf e * le 2 s at ≤ stop - (at + 2) = leb-true _ _ o in (omega arith, λ _. omega arith))
+    (λ _. none-past at stop)) (λ _. none-past at stop))
+    (λ _. none-past at stop)
+field-past (listed e) s stop at h =
+    picked (Past at stop) (eqb ((stop - at) % sizeOf e) 0) _ _ (λ _. picked (Past at stop) (okItems e ((stop - at) / sizeOf e) s at) _ _ (λ _. (omega arith, λ _. h)) (λ _. none-past at stop)) (λ _. none-past at stop)
+
+pub past-zero : (fs : List Field) (s : List ℕ) (stop : ℕ) → pastAll fs s stop 0 ≡ 0
+unfolding pastAll
+past-zero [] s stop = refl
+past-zero (f ∷ fs) s stop = refl
+
+fields-past : (fs : List Field) (s : List ℕ) (stop at : ℕ) → at ≤ stop → Past at stop (pastAll fs s stop at)
+unfolding pastAll
+fields-past [] s stop at h = (h, λ _. omega arith)
+fields-past (f ∷ fs) s stop at h =
+    let g : Past at stop (past f s stop at) = field-past f s stop at h in
+    let i : Past (past f s stop at) stop (pastAll fs s stop (past f s stop at)) = fields-past fs s stop (past f s stop at) (g .0) in
+    picked (Past at stop) (eqb at 0) _ _ (λ _. none-past at stop)
+    (λ _. (
+      i .0,
+      λ z.
+          let u : (past f s stop at ≡ 0 → ⊥) = (λ e. z (ap (pastAll fs s stop) e ∙ past-zero fs s stop)) in
+          let v : at ≤ past f s stop at = g .1 u in
+          let w : past f s stop at ≤ pastAll fs s stop (past f s stop at) = i .1 z in
+          omega arith,
+    ))
+
+-- a record that starts at a place: its row, and where its children start and it stops
+pub record Head (s : List ℕ) (at end : ℕ) (c : Class) (fs : List Field) (p : Pattern) (b stop : ℕ) : Type 0 where
+  pub is : rowIn (le 2 s (at + 4)) rows ≡ row c fs p
+  pub stop-is : stop ≡ at + le 4 s at
+  pub body-is : b ≡ pastAll fs s stop (at + 6)
+  pub low : at + 6 ≤ b
+  pub mid : b ≤ stop
+  pub high : stop ≤ end
+
+pub data Opened (s : List ℕ) (at end : ℕ) (q : Pattern) : Start → Type 0 where
+  shut : Opened s at end q nothing
+  open' : {c : Class} {fs : List Field} {p r : Pattern} {b stop : ℕ} → Head s at end c fs p b stop → after q c ≡ left r → Opened s at end q (starts b stop p r)
+
+row-opened : (s : List ℕ) (at stop end : ℕ) (q : Pattern) (r : Row) → rowIn (le 2 s (at + 4)) rows ≡ r → stop ≡ at + le 4 s at → at + 6 ≤ stop → stop ≤ end → Opened s at end q (startRow s at stop q r)
+unfolding startRow startIf
+row-opened s at stop end q noRow e f h l = shut
+row-opened s at stop end q (row c fs p) e f h l = go (after q c) refl
+  where
+    go : (n : Next) → after q c ≡ n → Opened s at end q (startIf (pastAll fs s stop (at + 6)) stop p n)
+    go refused z = shut
+    go (left m) z =
+        let g : Past (at + 6) stop (pastAll fs s stop (at + 6)) = fields-past fs s stop (at + 6) h in
+        picked (Opened s at end q) (eqb (pastAll fs s stop (at + 6)) 0) _ _ (λ _. shut) (λ y. open' (record { is = e; stop-is = f; body-is = refl; low = g .1 (eqb-false _ _ y); mid = g .0; high = l }) z)
+
+opened : (s : List ℕ) (at end : ℕ) (q : Pattern) → Opened s at end q (startAt s at end q)
+unfolding startAt
+opened s at end q =
+    let P : Start → Type 0 = Opened s at end q in
+    picked P (leb 6 (end - at)) _ _ (λ r.
+    picked P (leb 6 (le 4 s at)) _ _ (λ l.
+    picked P (leb (le 4 s at) (end - at)) _ _ (λ m.
+    let r' : 6 ≤ end - at = leb-true _ _ r in
+    let l' : 6 ≤ le 4 s at = leb-true _ _ l in
+    let m' : le 4 s at ≤ end - at = leb-true _ _ m in
+    row-opened s at (at + le 4 s at) end q (rowIn (le 2 s (at + 4)) rows) refl refl (omega arith) (omega arith))
+    (λ _. shut)) (λ _. shut)) (λ _. shut)
+
+-- the bound on the check's calls does not matter, if it is over the bytes left
+pub bound-enough : (n m : ℕ) (s : List ℕ) (at end : ℕ) (q : Pattern) → end - at < n → end - at < m → recordsFrom n s at end q ≡ recordsFrom m s at end q
+unfolding recordsFrom checkRest
+bound-enough zero m s at end q hn hm = absurd (not-suc-le-zero hn)
+bound-enough (suc n) zero s at end q hn hm = absurd (not-suc-le-zero hm)
+bound-enough (suc n) (suc m) s at end q hn hm = go (eqb at end) refl (λ b p i hb hp. bound-enough n m s b p i hb hp)
+  where
+    Below : Type 0
+    Below = (b p : ℕ) (i : Pattern) → p - b < n → p - b < m → recordsFrom n s b p i ≡ recordsFrom m s b p i
+
+    step : (x : Start) → Opened s at end q x → Below → checkRest (recordsFrom n s) at end x ≡ checkRest (recordsFrom m s) at end x
+    step nothing shut below = refl
+    step (starts b p i r) (open' hd z) below =
+        let l : at + 6 ≤ b = hd .low in
+        let k : b ≤ p = hd .mid in
+        let h : p ≤ end = hd .high in
+        ap₂ andThen (below b p i (omega arith) (omega arith)) (below p end r (omega arith) (omega arith))
+
+    go : (t : Bool) → eqb at end ≡ t → Below → recordsFrom (suc n) s at end q ≡ recordsFrom (suc m) s at end q
+    go true z below = rw (z, recordsFrom)
+    go false z below = rw (z, recordsFrom) (step (startAt s at end q) (opened s at end q) below)
+
+-- the check passed, as a proof tree
+pub data Fine (s : List ℕ) : ℕ → ℕ → Pattern → Type 0 where
+  ends : {at end : ℕ} {q : Pattern} → at ≡ end → mayEnd q ≡ true → Fine s at end q
+  goes : {at end b stop : ℕ} {q r p : Pattern} {c : Class} {fs : List Field} → Head s at end c fs p b stop → after q c ≡ left r → Fine s b stop p → Fine s stop end r → Fine s at end q
+
+pub bad-good : {p : ℕ} → Bad p ≡ Good → ⊥
+bad-good e = let z : _≡_ {A = ℕ} 0 1 = cc in omega arith
+
+pub both-good : (a b : Form) → andThen a b ≡ Good → (a ≡ Good) × (b ≡ Good)
+unfolding andThen
+both-good Good b e = (refl, e)
+both-good (Bad p) b e = absurd (bad-good e)
+
+pub fine : (n : ℕ) (s : List ℕ) (at end : ℕ) (q : Pattern) → recordsFrom n s at end q ≡ Good → Fine s at end q
+unfolding recordsFrom checkRest
+fine zero s at end q e = absurd (bad-good e)
+fine (suc n) s at end q e = go (eqb at end) refl (λ b p i h. fine n s b p i h)
+  where
+    Below : Type 0
+    Below = (b p : ℕ) (i : Pattern) → recordsFrom n s b p i ≡ Good → Fine s b p i
+
+    stop : (t : Bool) → mayEnd q ≡ t → at ≡ end → pick t Good (Bad at) ≡ Good → Fine s at end q
+    stop true m z h = ends z m
+    stop false m z h = absurd (bad-good h)
+
+    step : (x : Start) → Opened s at end q x → checkRest (recordsFrom n s) at end x ≡ Good → Below → Fine s at end q
+    step nothing shut h below = absurd (bad-good h)
+    step (starts b p i r) (open' hd z) h below =
+        let g = both-good (recordsFrom n s b p i) (recordsFrom n s p end r) h in
+        goes hd z (below b p i (g .0)) (below p end r (g .1))
+
+    go : (t : Bool) → eqb at end ≡ t → Below → Fine s at end q
+    go true z below = stop (mayEnd q) refl (eqb-true _ _ z) (rw z at e)
+    go false z below = step (startAt s at end q) (opened s at end q) (rw z at e) below
+
+-- one record read, with any fuel
+read-one : (n : ℕ) {s : List ℕ} {at end b stop : ℕ} {p : Pattern} {c : Class} {fs : List Field} → Head s at end c fs p b stop
+    → treesFrom (suc n) s at end ≡ tcons (node at (le 2 s (at + 4)) (readValues fs s stop (at + 6)) (treesFrom n s b stop)) (treesFrom n s stop end)
+unfolding treesFrom readNode rowFields
+read-one n {s} {at} {end} {b} {stop} hd =
+    let l : at + 6 ≤ b = hd .low in
+    let m : b ≤ stop = hd .mid in
+    let h : stop ≤ end = hd .high in
+    rw (ne-eqb at end (λ e. omega arith), treesFrom) (rw (hd .is, rowFields, ← hd .stop-is, ← hd .body-is))
+
+-- the reader's fuel does not matter
+enough : {s : List ℕ} {at end : ℕ} {q : Pattern} → Fine s at end q → (f g : ℕ) → end - at < f → end - at < g → treesFrom f s at end ≡ treesFrom g s at end
+unfolding treesFrom
+enough (ends z m) zero g hf hg = absurd (not-suc-le-zero hf)
+enough (ends z m) (suc f) zero hf hg = absurd (not-suc-le-zero hg)
+enough {at = at} {end = end} (ends z m) (suc f) (suc g) hf hg = rw (eq-eqb at end z, treesFrom)
+enough (goes hd a kids rest) zero g hf hg = absurd (not-suc-le-zero hf)
+enough (goes hd a kids rest) (suc f) zero hf hg = absurd (not-suc-le-zero hg)
+enough {s} {at} {end} (goes {b = b} {stop = stop} {fs = fs} hd a kids rest) (suc f) (suc g) hf hg =
+    let l : at + 6 ≤ b = hd .low in
+    let m : b ≤ stop = hd .mid in
+    let h : stop ≤ end = hd .high in
+    let i : treesFrom f s b stop ≡ treesFrom g s b stop = enough kids f g (omega arith) (omega arith) in
+    let j : treesFrom f s stop end ≡ treesFrom g s stop end = enough rest f g (omega arith) (omega arith) in
+    read-one f hd ∙ ap₂ (λ (x y : Trees). tcons (node at (le 2 s (at + 4)) (readValues fs s stop (at + 6)) x) y) i j ∙ sym (read-one g hd)
+
+-- ONE STEP OF THE READER on a sheet that passed: what code that walks by position needs
+pub read-end : (s : List ℕ) (at : ℕ) → readRecords s at at ≡ tnil
+unfolding readRecords treesFrom
+read-end s at = rw (eq-eqb at at refl, treesFrom)
+
+pub read-step : {s : List ℕ} {at end b stop : ℕ} {p r : Pattern} {c : Class} {fs : List Field} → Head s at end c fs p b stop → Fine s b stop p → Fine s stop end r
+    → readRecords s at end ≡ tcons (node at (le 2 s (at + 4)) (readValues fs s stop (at + 6)) (readRecords s b stop)) (readRecords s stop end)
+unfolding readRecords
+read-step {s} {at} {end} {b} {stop} {fs = fs} hd kids rest =
+    let l : at + 6 ≤ b = hd .low in
+    let m : b ≤ stop = hd .mid in
+    let h : stop ≤ end = hd .high in
+    let i : treesFrom (end - at) s b stop ≡ treesFrom (suc (stop - b)) s b stop = enough kids (end - at) (suc (stop - b)) (omega arith) (omega arith) in
+    let j : treesFrom (end - at) s stop end ≡ treesFrom (suc (end - stop)) s stop end = enough rest (end - at) (suc (end - stop)) (omega arith) (omega arith) in
+    read-one (end - at) hd ∙ ap₂ (λ (x y : Trees). tcons (node at (le 2 s (at + 4)) (readValues fs s stop (at + 6)) x) y) i j

@@ -1,0 +1,86 @@
+-- The two operations' answers (document 01, "What each number means"), in its order: 1, 3, 4, the walk, 31; and 1, 40, the walk.
+-- Assumes nothing: these are definitions.
+use Prim.Native.Nat.{ℕ}
+use mathlib.Core.List.{List, [], _∷_}
+use mathlib.Core.Option.{Option, none, some}
+use mathlib.Core.Bool.{_&&_}
+use lib.Dec.{leb}
+use lib.ListN.{length}
+use Rattle.definitions.specs.Result.{Result, err, ok, _>>=_, _>>_, mapErr, Done, check}
+use Rattle.definitions.specs.Ir.{IrType, tagOf, nameOf}
+use Rattle.definitions.specs.Lower.{LoweringError, lowerContract}
+use Rattle.definitions.specs.Verify.{VerifyError, verifyProgram}
+use Rattle.definitions.specs.Records.{Form, Good, Bad}
+use Rattle.definitions.specs.ContractSheet.{readContract, refusal3, refusal4}
+use Rattle.definitions.specs.ProgramSheet.{writeProgram, readProgram, refusal40}
+
+-- a refusal: its number, and its details in order
+pub record Refusal : Type 0 where
+  pub number : ℕ
+  pub details : List ℕ
+
+abbrev pub refusal : ℕ → List ℕ → Refusal
+refusal k ds = record { number = k; details = ds }
+
+-- acceptance has what is written out
+abbrev pub Answer : Type 0
+Answer = Result Refusal (List ℕ)
+
+-- 3, 4 and 40 have the place
+abbrev pub refuseForm : ℕ → Form → Result Refusal Done
+refuseForm k Good = ok tt
+refuseForm k (Bad place) = err (refusal k (place ∷ []))
+
+abbrev pub lowerRefusal : LoweringError → Refusal
+lowerRefusal (LoweringError.UndefinedVariable n) = refusal 10 (n ∷ [])
+lowerRefusal (LoweringError.UndefinedFunction n) = refusal 11 (n ∷ [])
+lowerRefusal (LoweringError.UnresolvedType s) = refusal 12 (s ∷ [])
+lowerRefusal LoweringError.FieldOfNonStruct = refusal 13 []
+lowerRefusal (LoweringError.NoSuchField s f) = refusal 14 (s ∷ f ∷ [])
+lowerRefusal LoweringError.StructLiteral = refusal 15 []
+lowerRefusal LoweringError.MappingRead = refusal 16 []
+lowerRefusal LoweringError.MappingWrite = refusal 17 []
+lowerRefusal LoweringError.VoidAsValue = refusal 18 []
+lowerRefusal LoweringError.PoseidonArguments = refusal 19 []
+lowerRefusal LoweringError.MerkleProof = refusal 20 []
+lowerRefusal (LoweringError.TooManyBlocksOrLocals i) = refusal 30 (i ∷ [])
+
+-- lowering a sheet, with an output of `room` bytes lent
+unfoldable pub lowerSheet : List ℕ → (room : ℕ) → Answer
+lowerSheet s room = do
+  check (leb (length s) 32768) (refusal 1 [])
+  refuseForm 3 (refusal3 s)
+  refuseForm 4 (refusal4 s)
+  p ← mapErr lowerRefusal (lowerContract (readContract s))
+  check (leb (length (writeProgram p)) 32768 && leb (length (writeProgram p)) room) (refusal 31 [])
+  ok (writeProgram p)
+
+-- a type that was got, or none
+abbrev pub gotTag : Option IrType → ℕ
+gotTag none = 65535
+gotTag (some t) = tagOf t
+
+abbrev pub gotName : Option IrType → ℕ
+gotName none = 0
+gotName (some t) = nameOf t
+
+-- the function's name f comes first
+abbrev pub verifyRefusal : ℕ × VerifyError → Refusal
+verifyRefusal (f, VerifyError.UndefinedValue v) = refusal 41 (f ∷ v ∷ [])
+verifyRefusal (f, VerifyError.DuplicateValueDef v) = refusal 42 (f ∷ v ∷ [])
+verifyRefusal (f, VerifyError.UndefinedBlock b) = refusal 43 (f ∷ b ∷ [])
+verifyRefusal (f, VerifyError.MissingTerminator b) = refusal 44 (f ∷ b ∷ [])
+verifyRefusal (f, VerifyError.ReturnTypeMismatch e g) = refusal 45 (f ∷ tagOf e ∷ nameOf e ∷ gotTag g ∷ gotName g ∷ [])
+verifyRefusal (f, VerifyError.BranchConditionNotBool v t) = refusal 46 (f ∷ v ∷ tagOf t ∷ nameOf t ∷ [])
+verifyRefusal (f, VerifyError.OperandTypeMismatch l r) = refusal 47 (f ∷ tagOf l ∷ nameOf l ∷ tagOf r ∷ nameOf r ∷ [])
+verifyRefusal (f, VerifyError.UndefinedLocal l) = refusal 48 (f ∷ l ∷ [])
+verifyRefusal (f, VerifyError.UndefinedFunction g) = refusal 49 (f ∷ g ∷ [])
+verifyRefusal (f, VerifyError.ResultOnNone k) = refusal 50 (f ∷ k ∷ [])
+
+-- verifying a sheet, which writes nothing
+unfoldable pub verifySheet : List ℕ → Answer
+verifySheet s = do
+  check (leb (length s) 32768) (refusal 1 [])
+  refuseForm 40 (refusal40 s)
+  mapErr verifyRefusal (verifyProgram (readProgram s))
+  ok []
