@@ -6,6 +6,7 @@ use native.Mathlib.Nat.{pow-suc, add-zero, zero-add, add-suc, suc-add}
 use native.Mathlib.Numerals.{add-one}
 use native.Mathlib.Omega.{arith}
 use lib.ListN.{length, getD, length-append}
+use lib.Seq.{ext-getD}
 use Rattle.definitions.specs.Fields.{Bytes, bytes, le}
 
 pub data Stands (s : List ℕ) : ℕ → List ℕ → Type 0 where
@@ -55,3 +56,31 @@ pub le-low : (n : ℕ) (s : List ℕ) (at : ℕ) → Bytes s → le n s at < 256
 unfolding le
 le-low zero s at h = omega arith
 le-low (suc n) s at h = rw pow-suc (omega (arith, h .each at, le-low n s (at + 1) h))
+
+-- the bytes of the number that was read are those that stand there
+pub bytes-le : (n : ℕ) (s : List ℕ) (at : ℕ) → Bytes s → Stands s at (bytes n (le n s at))
+unfolding le bytes
+bytes-le zero s at h = nil
+bytes-le (suc n) s at h =
+    let b : getD s at 0 < 256 = h .each at in
+    let m : getD s at 0 ≡ (getD s at 0 + 256 * le n s (at + 1)) % 256 = omega arith in
+    let d : (getD s at 0 + 256 * le n s (at + 1)) / 256 ≡ le n s (at + 1) = omega arith in
+    cons m (rw (← d) at (bytes-le n s (at + 1) h))
+
+-- what stands one after the other stands as one list
+pub join : {a b s : List ℕ} {at : ℕ} → Stands s at a → Stands s (at + length a) b → Stands s at (a ++ b)
+join {b = b} {s = s} {at = at} nil k = rw (add-zero at) at k
+join {b = b} {s = s} {at = at} (cons {b = a} e h) k =
+    let z : at + suc (length a) ≡ at + 1 + length a = omega arith in
+    cons e (join h (rw z at k))
+
+byte-at : {s b : List ℕ} {at : ℕ} → Stands s at b → (i : ℕ) → i < length b → getD b i 0 ≡ getD s (at + i) 0
+byte-at nil i l = absurd (omega arith)
+byte-at {at = at} (cons e h) zero l = rw (add-zero at) (sym e)
+byte-at {s} {at = at} (cons e h) (suc i) l =
+    let z : at + suc i ≡ at + 1 + i = omega arith in
+    rw z (byte-at h i (omega arith))
+
+-- what stands at a sheet's start and is as long is the sheet
+pub whole-back : {s b : List ℕ} → Stands s 0 b → length b ≡ length s → b ≡ s
+whole-back {s} {b} h e = ext-getD 0 b s e (λ i l. rw zero-add at (byte-at h i l))

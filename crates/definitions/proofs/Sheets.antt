@@ -4,3 +4,5 @@ pub mod Values
 pub mod Trees
 pub mod Passed
 pub mod Reads
+pub mod Written
+pub mod Lines

@@ -1,10 +1,12 @@
 -- Contracts as sheets and back (document 01, "Contract sheet"), and refusals 3 and 4. Assumes nothing: these are definitions.
 use Prim.Native.Nat.{ℕ, zero, suc, _+_}
+use mathlib.Core.Path.{_≡_}
 use mathlib.Core.Bool.{Bool, true, false}
 use mathlib.Core.List.{List, [], _∷_, map}
 use mathlib.Core.Option.{Option, none, some}
 use lib.Dec.{leb, eqb}
 use lib.ListN.{length}
+use Rattle.definitions.specs.Fields.{Bytes}
 use Rattle.definitions.specs.Ast.{BinOp, Expr, Exprs, enil, econs, FieldInits, fnil, fcons, OptExpr, absent, present, Stmt, Stmts, snil, scons, OptStmts, noElse, elseDo, StorageField, Param, Struct, Function, Contract}
 use Rattle.definitions.specs.Grammar.{Class, one, done}
 use Rattle.definitions.specs.Records.{pick, Item, small, opt, word, ty, param, pair, Value, item, group, rest, Tree, node, Trees, tnil, tcons, writeTree, readRecords, Form, Good, Bad, andThen, checkRecords, itemsAt, numAt, optAt, gather, treesOf}
@@ -258,3 +260,7 @@ contractTree K = node (K .place) 1 (u16 (K .name) ∷ []) (treesOf storageTree (
 
 unfoldable pub writeContract : Contract → List ℕ
 writeContract K = writeTree (contractTree K)
+
+-- NOTHING IS OVERLOOKED: a sheet that passes refusal 3 is, byte for byte, the writing of the contract that is read from it
+abbrev pub NothingOverlooked : Type 0
+NothingOverlooked = (s : List ℕ) → Bytes s → refusal3 s ≡ Good → writeContract (readContract s) ≡ s

@@ -23,7 +23,7 @@ Past at stop x = (x ≤ stop) × ((x ≡ 0 → ⊥) → at ≤ x)
 none-past : (at stop : ℕ) → Past at stop 0
 none-past at stop = (omega arith, λ z. absurd (z refl))
 
-field-past : (f : Field) (s : List ℕ) (stop at : ℕ) → at ≤ stop → Past at stop (past f s stop at)
+pub field-past : (f : Field) (s : List ℕ) (stop at : ℕ) → at ≤ stop → Past at stop (past f s stop at)
 unfolding past
 field-past (single e) s stop at h =
     picked (Past at stop) (leb (sizeOf e) (stop - at)) _ _

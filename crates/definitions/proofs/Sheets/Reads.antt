@@ -28,7 +28,7 @@ type-low t n e =
     picked LowName (eqb t 0) _ _ (λ _. z) (λ _. picked LowName (eqb t 1) _ _ (λ _. z) (λ _. picked LowName (eqb t 2) _ _ (λ _. z)
     (λ _. picked LowName (eqb t 3) _ _ (λ q. let l : n ≤ 65534 = leb-true n 65534 (rw q at e) in omega arith) (λ _. z))))
 
-both-true : (a b : Bool) → pick a b false ≡ true → (a ≡ true) × (b ≡ true)
+pub both-true : (a b : Bool) → pick a b false ≡ true → (a ≡ true) × (b ≡ true)
 both-true true b e = (refl, e)
 both-true false b e = absurd (let z : _≡_ {A = ℕ} 0 1 = cc in omega arith)
 
@@ -64,7 +64,7 @@ unfolding okItems readItems
 items-fit e zero s at h q = noItem
 items-fit e (suc n) s at h q = let b = both-true (okItem e s at) _ q in andItem (item-fits e s at h (b .0)) (items-fit e n s (at + sizeOf e) h (b .1))
 
-items-count : (e : Entry) (n : ℕ) (s : List ℕ) (at : ℕ) → length (readItems e n s at) ≡ n
+pub items-count : (e : Entry) (n : ℕ) (s : List ℕ) (at : ℕ) → length (readItems e n s at) ≡ n
 unfolding readItems
 items-count e zero s at = refl
 items-count e (suc n) s at = ap suc (items-count e n s (at + sizeOf e))
