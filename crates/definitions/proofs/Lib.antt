@@ -1,3 +1,4 @@
+pub mod All
 pub mod Rows
 pub mod Results
 pub mod Fields

@@ -1,3 +1,4 @@
+pub mod All
 pub mod Result
 pub mod Fields
 pub mod Names

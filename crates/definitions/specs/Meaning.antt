@@ -4,6 +4,7 @@ use Prim.Native.Nat.{ℕ, zero, suc}
 use mathlib.Core.Path.{_≡_}
 use mathlib.Core.List.{List, [], _∷_}
 use mathlib.Core.Option.{Option, none, some}
+use Rattle.definitions.specs.All.{All}
 use Rattle.definitions.specs.Result.{Result, err, ok}
 use Rattle.definitions.specs.Ir.{IrFunction}
 use Rattle.definitions.specs.Run.{Way, thenWay, elseWay, Pick, State, at, ended, lacks, run}
@@ -113,9 +114,11 @@ closedScope = record {
 abbrev pub runRows : List RunRow
 runRows = returns ∷ goesOn ∷ leavesWhile ∷ leavesFor ∷ assigns ∷ letItself ∷ closedScope ∷ []
 
-abbrev pub AllRun : List RunRow → Type 0
-AllRun [] = Unit {0}
-AllRun (r ∷ rs) = (comesTo (lowerSheet (r .sheet) 32768) (r .picks) ≡ r .result) × AllRun rs
+abbrev pub Runs : RunRow → Type 0
+Runs r = comesTo (lowerSheet (r .sheet) 32768) (r .picks) ≡ r .result
+
+abbrev pub RunRowsHold : Type 0
+RunRowsHold = All Runs runRows
 
 -- A PROGRAM THAT LACKS, which no lowering wrote: block 1 returns the value that only block 2 makes. The verifier accepts it, since a
 -- value that is defined anywhere in the function counts; the run lacks.

@@ -3,6 +3,7 @@
 use Prim.Native.Nat.{ℕ}
 use mathlib.Core.Path.{_≡_}
 use mathlib.Core.List.{List, [], _∷_}
+use Rattle.definitions.specs.All.{All}
 use Rattle.definitions.specs.Result.{err, ok}
 use Rattle.definitions.specs.Answers.{refusal, Answer, lowerSheet, verifySheet}
 
@@ -207,6 +208,8 @@ abbrev pub answerOf : Asks → List ℕ → Answer
 answerOf (lowers room) s = lowerSheet s room
 answerOf verifies s = verifySheet s
 
-abbrev pub AllAnswered : List Reading → Type 0
-AllAnswered [] = Unit {0}
-AllAnswered (r ∷ rs) = (answerOf (r .asks) (r .sheet) ≡ r .answer) × AllAnswered rs
+abbrev pub Answered : Reading → Type 0
+Answered r = answerOf (r .asks) (r .sheet) ≡ r .answer
+
+abbrev pub ReadingsHold : Type 0
+ReadingsHold = All Answered readings

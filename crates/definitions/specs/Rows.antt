@@ -6,6 +6,7 @@ use Prim.Native.Nat.{ℕ}
 use mathlib.Core.Path.{_≡_}
 use mathlib.Core.List.{List, [], _∷_}
 use mathlib.Core.Option.{Option, none, some}
+use Rattle.definitions.specs.All.{All}
 use Rattle.definitions.specs.Result.{Result, err, ok}
 use Rattle.definitions.specs.Answers.{Refusal, refusal, Answer, lowerSheet, verifySheet}
 
@@ -313,10 +314,8 @@ verifiedOf (ok b) = some (verifySheet b)
 abbrev pub rowOf : List ℕ → Row
 rowOf s = record { sheet = s; lowered = lowerSheet s 32768; verified = verifiedOf (lowerSheet s 32768) }
 
--- every row holds
-abbrev pub AllHold : List Row → Type 0
-AllHold [] = Unit {0}
-AllHold (r ∷ rs) = (rowOf (r .sheet) ≡ r) × AllHold rs
+abbrev pub Holds : Row → Type 0
+Holds r = rowOf (r .sheet) ≡ r
 
 abbrev pub RowsHold : Type 0
-RowsHold = AllHold proofSheets
+RowsHold = All Holds proofSheets

@@ -4,7 +4,8 @@ use mathlib.Core.List.{List, [], _∷_}
 use mathlib.Core.Option.{Option, none, some}
 use lib.ListN.{length}
 use Rattle.definitions.specs.Ast.{Param, Contract, Expr, Exprs, Function, OptExpr, OptStmts, Stmt, Stmts, Struct, absent, econs, elseDo, enil, noElse, present, scons, snil}
-use Rattle.definitions.proofs.Programs.Fits.{All, Id, FitsOpt}
+use Rattle.definitions.specs.All.{All}
+use Rattle.definitions.proofs.Programs.Fits.{Id, FitsOpt}
 
 abbrev mutual
   pub SmallExpr : Expr → Type 0

@@ -10,7 +10,7 @@ use borrow.Author.Tests.{leb-false, leb-true, eqb-true, eqb-false, le-leb}
 use Rattle.definitions.specs.Ast.{StorageField, Struct, Function}
 use Rattle.definitions.specs.Records.{pick, Value, Form, Good, Bad, andThen, Tree, node, Trees, tnil, tcons, gather, itemsAt}
 use Rattle.definitions.specs.ContractSheet.{paramOf, paramsAt, storageOf, structOf, functionOf, countTrees, either, over, oneIf, limitTree, limitTrees}
-use Rattle.definitions.proofs.Programs.Fits.{All, anil, acons}
+use Rattle.definitions.specs.All.{All, anil, acons}
 use Rattle.definitions.proofs.Sheets.Passed.{bad-good, both-good}
 
 -- what `over` says at the kinds that count

@@ -16,7 +16,8 @@ use Rattle.definitions.specs.ContractSheet.{firstE, restE, optE, exprFro
 use Rattle.definitions.proofs.Sheets.Fits.{FitItem, fitSmall, fitNone, fitSome, fitRaw, fitPair, FitItems, noItem, andItem, FitValue, fitOne, fitGroup}
 use Rattle.definitions.proofs.Sheets.Passed.{picked, Head, Fine, ends, goes, read-end, read-step, both-good}
 use Rattle.definitions.proofs.Sheets.Reads.{Holds, hnil, hcons, hrest, Read, rnode, Reads, rnil, rcons, reads}
-use Rattle.definitions.proofs.Programs.Fits.{All, anil, acons, Id, FitsOpt}
+use Rattle.definitions.specs.All.{All, anil, acons}
+use Rattle.definitions.proofs.Programs.Fits.{Id, FitsOpt}
 use Rattle.definitions.proofs.Contracts.Bounds.{SmallExpr, SmallExprs, SmallOpt, SmallStmt, SmallStmts, SmallElse, SmallFunction, Small}
 use Rattle.definitions.proofs.Contracts.Limits.{Limited, limits-law, tree-within}
 

@@ -16,7 +16,8 @@ use Rattle.definitions.specs.Result.{_>>=_, err, ok}
 use Rattle.definitions.specs.Sema.{fromStr, returnType, functionNamed}
 use Rattle.definitions.proofs.Results.{some-none, ok-inj, err-ok, taking, taking-some, last-below, first-below}
 use Rattle.definitions.proofs.Runs.Expressions.{taking-value}
-use Rattle.definitions.proofs.Programs.Fits.{All, anil, acons, Id, FitsType, FitsOpt}
+use Rattle.definitions.specs.All.{All, anil, acons}
+use Rattle.definitions.proofs.Programs.Fits.{Id, FitsType, FitsOpt}
 use Rattle.definitions.proofs.Contracts.Bounds.{SmallExpr, SmallExprs, SmallOpt, SmallStmt, SmallStmts, SmallElse, SmallFunction, Small}
 
 abbrev pub Content : Instruction → Type 0

@@ -3,12 +3,9 @@ use Prim.Native.Nat.{ℕ, _^_, _<_, _≤_}
 use mathlib.Core.List.{List, [], _∷_}
 use mathlib.Core.Option.{Option, none, some}
 use lib.ListN.{length}
+use Rattle.definitions.specs.All.{All}
 use Rattle.definitions.specs.Ir.{IrType, nameOf, Instruction, Terminator, InstrNode, BasicBlock, IrFunction, IrProgram}
 use Rattle.definitions.specs.ProgramSheet.{writeProgram}
-
-pub data All {A : Type 0} (P : A → Type 0) : List A → Type 0 where
-  anil : All P []
-  acons : {a : A} {l : List A} → P a → All P l → All P (a ∷ l)
 
 abbrev pub Id : ℕ → Type 0
 Id n = n < 65535

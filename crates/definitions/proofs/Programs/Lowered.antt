@@ -22,7 +22,8 @@ use Rattle.definitions.proofs.Runs.Safe.{callees, In, here, there, Sub,
 use Rattle.definitions.proofs.Runs.Invariant.{results, defs, Distinct}
 use Rattle.definitions.proofs.Runs.Expressions.{fns}
 use Rattle.definitions.proofs.Runs.Functions.{FnOk, function-ok}
-use Rattle.definitions.proofs.Programs.Fits.{All, anil, acons, Id, FitsType, FitsOpt, FitsInstr, FitsTerm, FitsNode, FitsBlock, FitsFunction, Fits}
+use Rattle.definitions.specs.All.{All, anil, acons}
+use Rattle.definitions.proofs.Programs.Fits.{Id, FitsType, FitsOpt, FitsInstr, FitsTerm, FitsNode, FitsBlock, FitsFunction, Fits}
 use Rattle.definitions.proofs.Contracts.Bounds.{SmallFunction, Small}
 use Rattle.definitions.proofs.Sheets.Trees.{wrap-long, tree-long}
 use Rattle.definitions.proofs.Programs.Contents.{Content, NodeFits, CodeFits, FnFits, function-fit}

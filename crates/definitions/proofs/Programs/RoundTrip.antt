@@ -13,7 +13,8 @@ use Rattle.definitions.specs.Ir.{BasicBlock, InstrNode, Instruction, IrF
 use Rattle.definitions.specs.ProgramSheet.{blockTree, functionNameTree, functionTree, instrTree, optTermTree, paramItem, programOf, programTree, readProgram, refusal40, termTree, valuesOf, writeProgram}
 use Rattle.definitions.specs.Records.{Form, Good, Item, Tree, Trees, Value, after, checkRecords, group, item, left, mayEnd, opt, param, readRecords, rest, rowIn, sizeOf, small, tcons, tnil, treesFrom, treesOf, ty, word, writeTree}
 use Rattle.definitions.proofs.Sheets.Fits.{FitItem, fitSmall, fitNone, fitSome, fitRaw, fitType, fitParam, FitItems, noItem, andItem, FitValue, fitOne, fitGroup, FitValues, noValue, andValue, lastRest, FitTree, fitNode, FitTrees, noTree, andTree}
-use Rattle.definitions.proofs.Programs.Fits.{All, anil, acons, Id, FitsType, FitsOpt, FitsInstr, FitsTerm, FitsNode, FitsBlock, FitsFunction, Fits}
+use Rattle.definitions.specs.All.{All, anil, acons}
+use Rattle.definitions.proofs.Programs.Fits.{Id, FitsType, FitsOpt, FitsInstr, FitsTerm, FitsNode, FitsBlock, FitsFunction, Fits}
 use Rattle.definitions.proofs.Fields.{whole}
 use Rattle.definitions.proofs.Sheets.Trees.{placedTree, TreesOk, trees-law}
 use Rattle.definitions.proofs.Programs.Back.{fieldsOf, kind-fits, row-is, placed-back}
