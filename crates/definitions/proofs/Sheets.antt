@@ -6,3 +6,5 @@ pub mod Passed
 pub mod Reads
 pub mod Written
 pub mod Lines
+pub mod Steps
+pub mod Singles

@@ -74,7 +74,7 @@ unfoldable pub writeProgram : IrProgram → List ℕ
 writeProgram p = writeTree (programTree p)
 
 -- READING
-abbrev binaryOf : ℕ → BinOp
+abbrev pub binaryOf : ℕ → BinOp
 binaryOf k =
     pick (eqb k 61) BinOp.Add (pick (eqb k 62) BinOp.Sub (pick (eqb k 63) BinOp.Mul (pick (eqb k 64) BinOp.Div (pick (eqb k 65) BinOp.Eq
     (pick (eqb k 66) BinOp.Neq (pick (eqb k 67) BinOp.Lt (pick (eqb k 68) BinOp.Lte (pick (eqb k 69) BinOp.Gt BinOp.Gte))))))))

@@ -26,6 +26,14 @@ pub fn read(s: &[u8], at: usize, n: usize) -> usize
     sum
 }
 
+// The u16 at a place.
+pub fn read_u16(s: &[u8], at: usize) -> u16
+    requires { ⌜ at + 2 ≤ length (now s) ⌝ }
+    ensures { λ r. ⌜ r ≡ le 2 (now (s .entry)) at ⌝ }
+{
+    read(s, at, 2) as u16
+}
+
 // Writes the n bytes of v at a place.
 pub fn write(out: &mut [u8], at: usize, n: usize, v: usize)
     requires { ⌜ at + n ≤ length (now out) ⌝ }

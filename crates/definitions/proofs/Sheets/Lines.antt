@@ -32,7 +32,7 @@ class-back Class.basicBlock = refl
 class-back Class.instruction = refl
 class-back Class.terminator = refl
 
-same-class : (c d : Class) → eqb (classNo c) (classNo d) ≡ true → c ≡ d
+pub same-class : (c d : Class) → eqb (classNo c) (classNo d) ≡ true → c ≡ d
 same-class c d e = sym (class-back c) ∙ ap classOf (eqb-true _ _ e) ∙ class-back d
 
 -- ROWS: P of every row of a class; and G, given P of each line of the class in turn
@@ -81,7 +81,7 @@ module _ (P : Class → ℕ → List Field → Pattern → Type 0) (c : Class) w
       go true z below = λ x. onward ls (one-more j d gs q ls (λ _. x)) below
       go false z below = onward ls (one-more j d gs q ls (λ y. absurd (eqb-false _ _ z (ap classNo y)))) below
 
-not-left : {q : Pattern} → refused ≡ left q → ⊥
+pub not-left : {q : Pattern} → refused ≡ left q → ⊥
 not-left e = let z : _≡_ {A = ℕ} 0 1 = cc in omega arith
 
 -- CHILDREN that follow a pattern, with Q of each

@@ -1,0 +1,98 @@
+-- The parameters of a function are defined one after the other. Assumes nothing.
+use mathlib.Core.Path.{_≡_, refl, ap, sym, _∙_, subst}
+use mathlib.Core.Bool.{Bool, true, false}
+use mathlib.Core.List.{List, [], _∷_, _++_, append-assoc}
+use mathlib.Core.Option.{Option, none, some}
+use Prim.Native.Nat.{ℕ, zero, suc, _+_, _-_, _*_, _≤_, _<_}
+use native.Mathlib.Nat.{not-suc-le-zero}
+use native.Mathlib.Numerals.{sub-one}
+use native.Mathlib.Omega.{arith}
+use lib.Dec.{leb}
+use lib.ListN.{length}
+use borrow.Author.Tests.{leb-true}
+use Rattle.definitions.specs.Result.{Result, err, ok}
+use Rattle.definitions.specs.Fields.{le}
+use Rattle.definitions.specs.Ir.{IrType}
+use Rattle.definitions.specs.Grammar.{valueAndType}
+use Rattle.definitions.specs.Records.{pick, okItem, okItems, readRecords, readItems, readItem, sizeOf}
+use Rattle.definitions.specs.Verify.{VerifyError, Defined, definedType, insert, defineParams}
+use Rattle.definitions.proofs.Sheets.Reads.{both-true}
+use Rattle.verify.specs.Answers.{named}
+use Rattle.verify.specs.Positions.{typeHere, paramsHere, localsAt, firstBlock, FunctionAt}
+use Rattle.verify.specs.Entries.{Entry, paramEntries, blocksEntries, entriesHere, firstEntry, firstPlace, Same}
+use Rattle.verify.proofs.Entries.{paramsFrom}
+use Rattle.verify.proofs.Scan.{Ascends, fn-ascends, insert-new, insert-old, inserted, refused, same-more}
+
+-- what is left of the parameters, from p on, with the table so far
+pub record Left (s : List ℕ) (at first stop name n p : ℕ) : Type 0 where
+  pub table : Defined
+  pub before : List Entry
+  pub same : Same table before
+  pub split : entriesHere s at first stop ≡ before ++ (paramEntries p (paramsFrom n s p) ++ blocksEntries (readRecords s first stop))
+  pub goes : named name (defineParams (paramsFrom n s p) table) ≡ named name (defineParams (paramsHere s at) [])
+  pub fits : p + 6 * n ≤ localsAt s at
+  pub valid : okItems valueAndType n s p ≡ true
+
+nothing-same : Same [] []
+unfolding firstEntry
+nothing-same v = tt
+
+module _ {s : List ℕ} {at first stop : ℕ} (F : FunctionAt s at stop) (f : first ≡ firstBlock s at) (name : ℕ) where
+  pub start : Left s at first stop name (le 2 s (at + 14)) (at + 16)
+  unfolding entriesHere paramsHere
+  start = record { table = []; before = []; same = nothing-same; split = refl; goes = refl; fits = omega arith; valid = F .params }
+
+  ascends : Ascends at (entriesHere s at first stop)
+  ascends = rw f (fn-ascends F)
+
+  pub value-low : (n p : ℕ) → Left s at first stop name n p → 0 < n → le 2 s p < 65535
+  unfolding okItems okItem
+  value-low zero p L h = absurd (not-suc-le-zero h)
+  value-low (suc n) p L h =
+      let c = both-true (leb (le 2 s p) 65534) _ (both-true (okItem valueAndType s p) _ (L .valid) .0) in
+      let l : le 2 s p ≤ 65534 = leb-true _ _ (c .0) in
+      omega arith
+
+  own : ℕ → Entry
+  own p = record { place = p; value = le 2 s p; type = some (typeHere s (p + 2)) }
+
+  rest : ℕ → ℕ → List Entry
+  rest n p = paramEntries (p + 6) (paramsFrom n s (p + 6)) ++ blocksEntries (readRecords s first stop)
+
+  parts : {n p : ℕ} (L : Left s at first stop name (suc n) p) → entriesHere s at first stop ≡ L .before ++ (own p ∷ rest n p)
+  unfolding own rest readItems readItem sizeOf typeHere
+  parts L = L .split
+
+  up : {n p : ℕ} (L : Left s at first stop name (suc n) p) → Ascends at (L .before ++ (own p ∷ rest n p))
+  up L = subst (Ascends at) (parts L) ascends
+
+  pub twice : (n p : ℕ) → Left s at first stop name n p → 0 < n → (firstPlace (le 2 s p) (entriesHere s at first stop) ≡ p → ⊥) → err (name, VerifyError.DuplicateValueDef (le 2 s p)) ≡ named name (defineParams (paramsHere s at) [])
+  unfolding own readItems readItem sizeOf defineParams typeHere
+  twice zero p L h n = absurd (not-suc-le-zero h)
+  twice (suc m) p L h n =
+      let o = insert-old at (L .table) (L .before) (own p) (rest m p) (up L) (L .same) (λ z. n (ap (firstPlace (le 2 s p)) (parts L) ∙ z)) in
+      sym (sym (L .goes) ∙ rw (refused (le 2 s p) (typeHere s (p + 2)) (o .0) (L .table) (o .1)))
+
+  once : {m p : ℕ} (L : Left s at first stop name (suc m) p) → firstPlace (le 2 s p) (entriesHere s at first stop) ≡ p → definedType (le 2 s p) (L .table) ≡ none
+  unfolding own
+  once {m} {p} L z = insert-new at (L .table) (L .before) (own p) (rest m p) (typeHere s (p + 2)) (up L) (L .same) (sym (ap (firstPlace (le 2 s p)) (parts L)) ∙ z)
+
+  pub next : (n p : ℕ) → Left s at first stop name n p → 0 < n → firstPlace (le 2 s p) (entriesHere s at first stop) ≡ p → Left s at first stop name (n - 1) (p + 6)
+  unfolding own rest readItems readItem sizeOf defineParams okItems typeHere
+  next zero p L h z = absurd (not-suc-le-zero h)
+  next (suc m) p L h z =
+      let d : insert (le 2 s p) (typeHere s (p + 2)) (L .table) ≡ ok ((le 2 s p, typeHere s (p + 2)) ∷ L .table) = inserted (le 2 s p) (typeHere s (p + 2)) (L .table) (once L z) in
+      rw sub-one (record {
+        table = (le 2 s p, typeHere s (p + 2)) ∷ L .table;
+        before = L .before ++ (own p ∷ []);
+        same = same-more (L .table) (L .before) (own p) (typeHere s (p + 2)) (L .same) (once L z) refl;
+        split = parts L ∙ sym (append-assoc (L .before) (own p ∷ []) (rest m p));
+        goes = rw d at (L .goes);
+        fits = omega (arith, L .fits);
+        valid = both-true (okItem valueAndType s p) _ (L .valid) .1;
+      })
+
+  pub over : (n p : ℕ) → Left s at first stop name n p → n ≡ 0 → ok tt ≡ named name (defineParams (paramsHere s at) [])
+  unfolding readItems defineParams
+  over zero p L e = L .goes
+  over (suc n) p L e = absurd (omega arith)
