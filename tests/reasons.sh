@@ -9,7 +9,7 @@ for edit in crates/*/must-fail/*.edit; do
     line=${line#at: } file=${line%%: *} text=${line#*: }
     number=$(grep -nF -m 1 -e "$text" "$where/$file" 2>/dev/null | cut -d: -f1)
     if [ -z "$number" ]; then fail "$edit: '$text' is not in $file"
-    elif grep -qE "/$file:$number:[0-9]+: (error|it is not proved)" "$where/.log"; then pass
+    elif grep -F "/$file:$number:" "$where/.log" | grep -qE ':[0-9]+: (error|it is not proved)'; then pass
     else fail "$edit is not refused at $file:$number"
     fi
   done < <(grep '^at: ' "$edit")

@@ -14,6 +14,7 @@ pub mod Records
 pub mod ProgramSheet
 pub mod ContractSheet
 pub mod Answers
+pub mod Lines
 pub mod Demand3
 pub mod Rows
 pub mod Meaning

@@ -10,7 +10,7 @@ use native.Mathlib.Numerals.{sub-one}
 use native.Mathlib.Omega.{arith}
 use lib.Dec.{leb, eqb}
 use lib.ListN.{length}
-use borrow.Author.Tests.{eqb-true, eqb-false, eq-eqb, ne-eqb, le-leb, lt-leb}
+use borrow.Author.Tests.{eqb-true, eqb-false, eq-eqb, ne-eqb, le-leb, lt-leb, leb-true}
 use Rattle.definitions.specs.All.{All, anil, acons}
 use Rattle.definitions.specs.Fields.{le}
 use Rattle.definitions.specs.Ir.{IrType, Instruction, resultType}
@@ -92,6 +92,7 @@ pub record ParamEntry (s : List ℕ) (lo hi : ℕ) (e : Entry) : Type 0 where
   pub below : e .place + 6 ≤ hi
   pub type : e .type ≡ some (typeHere s (e .place + 2))
   pub ok : okType (le 2 s (e .place + 2)) (le 2 s (e .place + 2 + 2)) ≡ true
+  pub real : e .value ≡ 65535 → ⊥
 
 pub params-known : (n : ℕ) (s : List ℕ) (p lo hi : ℕ) → lo < p → p + 6 * n ≤ hi → okItems valueAndType n s p ≡ true → All (ParamEntry s lo hi) (paramEntries p (paramsFrom n s p))
 unfolding readItems readItem sizeOf okItems okItem typeHere
@@ -99,7 +100,9 @@ params-known zero s p lo hi l h e = anil
 params-known (suc n) s p lo hi l h e =
     let b = both-true (okItem valueAndType s p) _ e in
     let c = both-true (leb (le 2 s p) 65534) _ (b .0) in
-    acons (record { above = l; below = omega arith; type = refl; ok = c .1 }) (params-known n s (p + 6) lo hi (omega arith) (omega arith) (b .1))
+    let m : le 2 s p ≤ 65534 = leb-true (le 2 s p) 65534 (c .0) in
+    let r : le 2 s p ≡ 65535 → ⊥ = λ z. omega (arith, m, z) in
+    acons (record { above = l; below = omega arith; type = refl; ok = c .1; real = r }) (params-known n s (p + 6) lo hi (omega arith) (omega arith) (b .1))
 
 -- INSTRUCTIONS
 pub record InstrEntry (s : List ℕ) (lo : ℕ) (e : Entry) : Type 0 where
@@ -109,6 +112,7 @@ pub record InstrEntry (s : List ℕ) (lo : ℕ) (e : Entry) : Type 0 where
   pub stop : ℕ
   pub here : InstrPlace s (e .place) kind
   pub type : e .type ≡ resultType (instrHere kind s (e .place) stop)
+  pub real : e .value ≡ 65535 → ⊥
 
 -- the entry of the instruction at q, and then those of the records after it
 pub instr-entries : {s : List ℕ} {q end stop : ℕ} → InstrStep s q end stop
@@ -138,9 +142,18 @@ instr-miss {s} {q} {end} {stop} v I n = ap (firstPlace v) (instr-entries I) ∙ 
     go true = refl
     go false = rw (ne-eqb (le 2 s (q + 6)) v n)
 
-result-known : (s : List ℕ) (lo q k stop : ℕ) (r : Option ℕ) → lo < q → le 2 s (q + 4) ≡ k → InstrPlace s q k → All (InstrEntry s lo) (resultEntry q r (instrHere k s q stop))
-result-known s lo q k stop none l e i = anil
-result-known s lo q k stop (some v) l e i = acons (record { above = l; kind = k; kind-is = e; stop = stop; here = i; type = refl }) anil
+-- 65,535 is the value of no result
+opt-real : (n v : ℕ) → optFrom n ≡ some v → v ≡ 65535 → ⊥
+unfolding optFrom
+opt-real n v e z = go (eqb n 65535) refl e
+  where
+    go : (b : Bool) → eqb n 65535 ≡ b → pick b none (some n) ≡ some v → ⊥
+    go true q f = absurd (let y : _≡_ {A = ℕ} 0 1 = cc in omega arith)
+    go false q f = eqb-false n 65535 q (let y : n ≡ v = cc in y ∙ z)
+
+result-known : (s : List ℕ) (lo q k stop : ℕ) (r : Option ℕ) → lo < q → le 2 s (q + 4) ≡ k → InstrPlace s q k → ((v : ℕ) → r ≡ some v → v ≡ 65535 → ⊥) → All (InstrEntry s lo) (resultEntry q r (instrHere k s q stop))
+result-known s lo q k stop none l e i h = anil
+result-known s lo q k stop (some v) l e i h = acons (record { above = l; kind = k; kind-is = e; stop = stop; here = i; type = refl; real = h v refl }) anil
 
 all-append : {P : Entry → Type 0} {a b : List Entry} → All P a → All P b → All P (a ++ b)
 all-append anil h = h
@@ -154,7 +167,7 @@ block-known (suc n) {s} {q} {end} lo h l i f = go (at-record f) (λ stop g k. bl
     go (at-end e) below = rw (← e) (rw (end-entries s q) anil)
     go (at-term T) below = rw (term-entries T) anil
     go (at-instr {stop} I) below =
-        rw (instr-entries I) (all-append (result-known s lo q (le 2 s (q + 4)) stop (optFrom (le 2 s (q + 6))) l refl (placed (I .at) (omega (arith, I .high, i))))
+        rw (instr-entries I) (all-append (result-known s lo q (le 2 s (q + 4)) stop (optFrom (le 2 s (q + 6))) l refl (placed (I .at) (omega (arith, I .high, i))) (opt-real (le 2 s (q + 6))))
         (below stop (omega (arith, I .low, I .high)) (omega (arith, I .low)) (I .next)))
 
 -- BLOCKS
@@ -216,6 +229,21 @@ module _ {s : List ℕ} {at stop : ℕ} (F : FunctionAt s at stop) where
   pub fn-entries : All Either (entriesHere s at (firstBlock s at) stop)
   unfolding entriesHere
   fn-entries = all-append (either-params fn-params) (either-instrs fn-instrs)
+
+  -- no entry has the value that stands for no result
+  pub no-absent : firstEntry 65535 (entriesHere s at (firstBlock s at) stop) ≡ none
+  no-absent = go (firstEntry 65535 (entriesHere s at (firstBlock s at) stop)) refl
+    where
+      real : (x : Entry) → Either x → x .value ≡ 65535 → ⊥
+      real x (inl P) = P .real
+      real x (inr I) = I .real
+
+      go : (o : Option Entry) → firstEntry 65535 (entriesHere s at (firstBlock s at) stop) ≡ o → firstEntry 65535 (entriesHere s at (firstBlock s at) stop) ≡ none
+      go none q = q
+      go (some x) q = let h = first-has 65535 fn-entries x q in absurd (real x (h .0) (h .1))
+
+  pub absent-place : (v first : ℕ) → first ≡ firstBlock s at → v ≡ 65535 → 0 ≡ firstPlace v (entriesHere s at first stop)
+  absent-place v first f e = rw (e, f) (sym (ap placeOf no-absent))
 
   pub found : (v p : ℕ) → p ≡ firstPlace v (entriesHere s at (firstBlock s at) stop) → Found v p
   found v p e = go (firstEntry v (entriesHere s at (firstBlock s at) stop)) refl

@@ -5,3 +5,11 @@ pub mod Walk
 pub mod Entries
 pub mod Scan
 pub mod Params
+pub mod Blocks
+pub mod Checks
+pub mod Functions
+pub mod Values
+pub mod Ids
+pub mod Operands
+pub mod Instrs
+pub mod Whole

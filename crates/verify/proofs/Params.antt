@@ -1,21 +1,20 @@
 -- The parameters of a function are defined one after the other. Assumes nothing.
 use mathlib.Core.Path.{_≡_, refl, ap, sym, _∙_, subst}
 use mathlib.Core.Bool.{Bool, true, false}
-use mathlib.Core.List.{List, [], _∷_, _++_, append-assoc}
+use mathlib.Core.List.{List, [], _∷_, _++_, append-assoc, append-nil}
 use mathlib.Core.Option.{Option, none, some}
 use Prim.Native.Nat.{ℕ, zero, suc, _+_, _-_, _*_, _≤_, _<_}
 use native.Mathlib.Nat.{not-suc-le-zero}
 use native.Mathlib.Numerals.{sub-one}
 use native.Mathlib.Omega.{arith}
-use lib.Dec.{leb}
 use lib.ListN.{length}
-use borrow.Author.Tests.{leb-true}
 use Rattle.definitions.specs.Result.{Result, err, ok}
 use Rattle.definitions.specs.Fields.{le}
 use Rattle.definitions.specs.Ir.{IrType}
 use Rattle.definitions.specs.Grammar.{valueAndType}
 use Rattle.definitions.specs.Records.{pick, okItem, okItems, readRecords, readItems, readItem, sizeOf}
 use Rattle.definitions.specs.Verify.{VerifyError, Defined, definedType, insert, defineParams}
+use Rattle.definitions.proofs.Results.{ok-inj, err-ok}
 use Rattle.definitions.proofs.Sheets.Reads.{both-true}
 use Rattle.verify.specs.Answers.{named}
 use Rattle.verify.specs.Positions.{typeHere, paramsHere, localsAt, firstBlock, FunctionAt}
@@ -44,14 +43,6 @@ module _ {s : List ℕ} {at first stop : ℕ} (F : FunctionAt s at stop) (f : fi
 
   ascends : Ascends at (entriesHere s at first stop)
   ascends = rw f (fn-ascends F)
-
-  pub value-low : (n p : ℕ) → Left s at first stop name n p → 0 < n → le 2 s p < 65535
-  unfolding okItems okItem
-  value-low zero p L h = absurd (not-suc-le-zero h)
-  value-low (suc n) p L h =
-      let c = both-true (leb (le 2 s p) 65534) _ (both-true (okItem valueAndType s p) _ (L .valid) .0) in
-      let l : le 2 s p ≤ 65534 = leb-true _ _ (c .0) in
-      omega arith
 
   own : ℕ → Entry
   own p = record { place = p; value = le 2 s p; type = some (typeHere s (p + 2)) }
@@ -96,3 +87,21 @@ module _ {s : List ℕ} {at first stop : ℕ} (F : FunctionAt s at stop) (f : fi
   unfolding readItems defineParams
   over zero p L e = L .goes
   over (suc n) p L e = absurd (omega arith)
+
+-- the table after parameters that passed has their entries
+pub params-same : (ps : List (ℕ × IrType)) (p : ℕ) (ds es : Defined) (pre : List Entry) → Same ds pre → defineParams ps ds ≡ ok es → Same es (pre ++ paramEntries p ps)
+unfolding defineParams
+params-same [] p ds es pre S e = rw append-nil (subst (λ (d : Defined). Same d pre) (ok-inj e) S)
+params-same ((v, t) ∷ ps) p ds es pre S e = go (definedType v ds) refl (λ d q r. params-same ps (p + 6) d es q r)
+  where
+    own : Entry
+    own = record { place = p; value = v; type = some t }
+
+    go : (o : Option IrType) → definedType v ds ≡ o → ((d : Defined) (q : List Entry) → Same d q → defineParams ps d ≡ ok es → Same es (q ++ paramEntries (p + 6) ps)) → Same es (pre ++ paramEntries p ((v, t) ∷ ps))
+    go (some u) y below = absurd (err-ok (rw (refused v t u ds y) at e))
+    go none y below =
+        rw (← append-assoc pre (own ∷ []) (paramEntries (p + 6) ps))
+        (below ((v, t) ∷ ds) (pre ++ (own ∷ [])) (same-more ds pre own t S y refl) (rw (inserted v t ds y) at e))
+
+pub all-params-same : (ps : List (ℕ × IrType)) (p : ℕ) (es : Defined) → defineParams ps [] ≡ ok es → Same es (paramEntries p ps)
+all-params-same ps p es e = params-same ps p [] es [] nothing-same e

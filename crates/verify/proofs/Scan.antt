@@ -152,15 +152,15 @@ inserted v t ds e = rw (e, insert)
 pub refused : (v : ℕ) (t u : IrType) (ds : Defined) → definedType v ds ≡ some u → insert v t ds ≡ err (VerifyError.DuplicateValueDef v)
 refused v t u ds e = rw (e, insert)
 
-raw-none : (o : Option IrType) → rawOpt o ≡ 65535 → o ≡ none
+pub raw-none : (o : Option IrType) → rawOpt o ≡ 65535 → o ≡ none
 raw-none none e = refl
 raw-none (some t) e = absurd (raw-some t e)
 
-has-type : (o : Option IrType) → (rawOpt o ≡ 65535 → ⊥) → (t : IrType) × (o ≡ some t)
+pub has-type : (o : Option IrType) → (rawOpt o ≡ 65535 → ⊥) → (t : IrType) × (o ≡ some t)
 has-type none h = absurd (h refl)
 has-type (some t) h = (t, refl)
 
-opt-absent : (v : ℕ) → v ≡ 65535 → optFrom v ≡ none
+pub opt-absent : (v : ℕ) → v ≡ 65535 → optFrom v ≡ none
 unfolding optFrom
 opt-absent v e = rw (eq-eqb v 65535 e)
 

@@ -17,7 +17,7 @@ use Rattle.definitions.proofs.Sheets.Passed.{Head, Fine, ends, goes, fine, read
 use Rattle.definitions.proofs.Sheets.Lines.{OfRows, Given, by-lines, same-class, not-left}
 use Rattle.definitions.proofs.Sheets.Singles.{itemsFrom, after as afterAll, Valid, Singles, singles, Counted, counted-field}
 use Rattle.definitions.proofs.Sheets.Steps.{Step, here, past, many-step, perhaps-step, One, this, one-step, done-ends, low}
-use Rattle.verify.specs.Positions.{typeHere, instrHere, sizeHere, termHere, paramsHere, localsAt, firstBlock, typesHere, blocksHere, functionHere, FunctionAt, BlockFrom, InstrPlace}
+use Rattle.verify.specs.Positions.{typeHere, instrHere, sizeHere, termHere, paramsHere, localsAt, firstBlock, typesHere, blocksHere, functionHere, functionsHere, FunctionAt, BlockFrom, InstrPlace}
 use Rattle.verify.proofs.Records.{InstrAt, instr-at}
 
 -- TERMINATORS
@@ -312,6 +312,26 @@ function-step {s} {at} {end} (here {fs = fs} {q = q} {b = b} {stop = stop} hd ki
 
 pub at-functions : {s : List ℕ} {at end : ℕ} → Fine s at end (many Class.irFunction (many Class.functionName done)) → AtFunction s at end
 at-functions f = function-step (many-step Class.irFunction (many Class.functionName done) f)
+
+-- a record that is there has its head, and its kind says whether it is a function
+pub head-there : {s : List ℕ} {at end : ℕ} {p : Pattern} → Fine s at end p → at < end → at + 6 ≤ end
+head-there (ends z m) l = absurd (omega arith)
+head-there (goes hd a kids rest) l = omega (arith, hd .low, hd .mid, hd .high)
+
+pub function-here : {s : List ℕ} {at end : ℕ} → Fine s at end (many Class.irFunction (many Class.functionName done)) → at < end → le 2 s (at + 4) ≡ 51 → (stop : ℕ) × FunctionStep s at end stop
+function-here {s} {at} {end} f l k = go (at-functions f)
+  where
+    go : AtFunction s at end → (stop : ℕ) × FunctionStep s at end stop
+    go (no-function e n h) = absurd (omega (arith, n l))
+    go (at-function {stop} F) = (stop, F)
+
+pub no-functions : {s : List ℕ} {at end : ℕ} → Fine s at end (many Class.irFunction (many Class.functionName done)) → (at < end → le 2 s (at + 4) ≡ 51 → ⊥) → functionsHere s at end ≡ []
+unfolding functionsHere
+no-functions {s} {at} {end} f n = go (at-functions f)
+  where
+    go : AtFunction s at end → gather 51 51 functionOf (readRecords s at end) ≡ []
+    go (no-function e m h) = e
+    go (at-function F) = absurd (n (omega (arith, F .low, F .high)) (F .kind))
 
 -- THE PROGRAM: its records stand from 6 on, to the end
 abbrev G : Class → ℕ → List Field → Pattern → Type 0

@@ -11,6 +11,8 @@ use Rattle.verify.specs.declared.Got.{Got}
 use Rattle.verify.specs.declared.Got.the-variants as got
 use Rattle.verify.specs.declared.VerifyError.{VerifyError}
 use Rattle.verify.specs.declared.VerifyError.the-variants.{UndefinedValue, DuplicateValueDef, UndefinedBlock, MissingTerminator, ReturnTypeMismatch, BranchConditionNotBool, OperandTypeMismatch, UndefinedLocal, UndefinedFunction, ResultOnNone}
+use Rattle.verify.specs.declared.Answer.{Answer}
+use Rattle.verify.specs.declared.Answer.the-variants.{Accepted, TooLong, Malformed, Refused}
 use Rattle.verify.specs.declared.Checked.{Checked}
 use Rattle.verify.specs.declared.Checked.the-variants.{Passed, Failed}
 
@@ -39,3 +41,10 @@ checkedOf (Failed e) = err (errorOf e)
 abbrev pub named : {A : Type 0} → ℕ → rules.Checked A → Result (ℕ × rules.VerifyError) Done
 named f (err x) = err (f, x)
 named f (ok a) = ok tt
+
+-- the answer to a sheet: document 01's number with its details
+abbrev pub answerOf : Answer → answers.Answer
+answerOf Accepted = ok []
+answerOf TooLong = err (answers.refusal 1 [])
+answerOf (Malformed p) = err (answers.refusal 40 (p ∷ []))
+answerOf (Refused e) = err (answers.verifyRefusal (errorOf e))

@@ -6,10 +6,11 @@ use mathlib.Core.Bool.{Bool, true, false}
 use mathlib.Core.List.{List, [], _∷_, _++_}
 use mathlib.Core.Option.{Option, none, some}
 use lib.Dec.{leb, eqb}
-use Rattle.definitions.specs.Ir.{IrType, Instruction, resultType, InstrNode}
+use Rattle.definitions.specs.Result.{_>>=_, check, Done}
+use Rattle.definitions.specs.Ir.{IrType, eqType, Instruction, resultType, InstrNode}
 use Rattle.definitions.specs.Records.{pick, Tree, node, Trees, tnil, tcons, readRecords}
 use Rattle.definitions.specs.ProgramSheet.{instrNodeOf}
-use Rattle.definitions.specs.Verify.{Defined, definedType}
+use Rattle.definitions.specs.Verify.{VerifyError, Checked, Defined, definedType, checkValueRef}
 use Rattle.verify.specs.Positions.{paramsHere}
 
 pub record Entry : Type 0 where
@@ -60,6 +61,12 @@ firstPlace v es = placeOf (firstEntry v es)
 
 abbrev pub firstType : ℕ → List Entry → Option IrType
 firstType v es = typeOfEntry (firstEntry v es)
+
+-- the part of a branch's check that looks at its value: defined, and a Bool
+unfoldable pub checkCondition : ℕ → Defined → Checked Done
+checkCondition v ds = do
+  condTy ← checkValueRef v ds
+  check (eqType condTy IrType.BoolT) (VerifyError.BranchConditionNotBool v condTy)
 
 -- the verifier's table has the entries: the same values with the same types
 abbrev pub Agree : Option Entry → Option IrType → Type 0

@@ -1,6 +1,6 @@
 -- What stands at the places of a program sheet that passed 40: the records of a function by position, as the code reads them.
 -- Helpers of this crate's proofs: no public promise cites them. Assumes nothing: these are definitions.
-use Prim.Native.Nat.{ℕ, _+_, _-_, _*_, _/_, _≤_}
+use Prim.Native.Nat.{ℕ, _+_, _-_, _*_, _/_, _%_, _≤_}
 use mathlib.Core.Path.{_≡_}
 use mathlib.Core.Bool.{Bool, true, false, _&&_}
 use mathlib.Core.List.{List, [], _∷_, map}
@@ -13,9 +13,10 @@ use Rattle.definitions.specs.Ir.{IrType, tagOf, nameOf, unlessVoid, Instruction
 use Rattle.definitions.specs.Grammar.{Class, upTo, irType, valueAndType, done, perhaps, many}
 use Rattle.definitions.specs.Records.{pick, Item, okType, okItems, numberOf, typeOf, typeFrom, optFrom, readItems, readRecords, gather}
 use Rattle.definitions.specs.InstrTable.{kindOf}
+use Rattle.definitions.specs.Verify.{functionIds}
 use Rattle.ir.specs.Kinds.{ruleNumber}
 use Rattle.definitions.proofs.Sheets.Passed.{Fine}
-use Rattle.definitions.specs.ProgramSheet.{binaryOf, instrNodeOf, blockOf, termOf}
+use Rattle.definitions.specs.ProgramSheet.{binaryOf, instrNodeOf, blockOf, termOf, firstOf, functionOf}
 
 -- a type as one number of four bytes; 65,535 stands for none
 abbrev pub rawType : IrType → ℕ
@@ -24,6 +25,10 @@ rawType t = tagOf t + 65536 * nameOf t
 abbrev pub rawOpt : Option IrType → ℕ
 rawOpt none = 65535
 rawOpt (some t) = rawType t
+
+-- the type that has a number
+abbrev pub fromRaw : ℕ → IrType
+fromRaw raw = typeFrom (raw % 65536) (raw / 65536 % 65536)
 
 -- the type in the four bytes at a place
 unfoldable pub typeHere : List ℕ → ℕ → IrType
@@ -56,12 +61,23 @@ sizeHere k =
     pick (eqb k 60) 20 (pick (leb k 70) 16 (pick (eqb k 71) 22 (pick (eqb k 72) 20 (pick (eqb k 73) 16 (pick (eqb k 74) 14 (pick (eqb k 75) 14
     (pick (eqb k 76) 12 (pick (eqb k 77) 14 (pick (eqb k 78) 10 (pick (eqb k 79) 12 10))))))))))
 
+-- the instructions of a block's records from q on
+unfoldable pub instrsHere : List ℕ → ℕ → ℕ → List InstrNode
+instrsHere s q end = gather 60 81 instrNodeOf (readRecords s q end)
+
 -- the terminator of kind k at q
 unfoldable pub termHere : ℕ → List ℕ → ℕ → Terminator
 termHere k s q =
     pick (eqb k 90) (Terminator.Jump (le 2 s (q + 6)))
     (pick (eqb k 91) (Terminator.Branch (le 2 s (q + 6)) (le 2 s (q + 8)) (le 2 s (q + 10)))
     (pick (eqb k 92) (Terminator.Return (optFrom (le 2 s (q + 6)))) Terminator.Unreachable))
+
+-- the terminator of a block's records from q on, if there is one; the block at b
+unfoldable pub terminatorHere : List ℕ → ℕ → ℕ → Option Terminator
+terminatorHere s q end = firstOf (gather 90 93 termOf (readRecords s q end))
+
+abbrev pub blockHere : List ℕ → ℕ → ℕ → BasicBlock
+blockHere s b end = record { id = le 2 s (b + 6); instrs = instrsHere s (b + 8) end; terminator = terminatorHere s (b + 8) end }
 
 -- the parameters of the function at `at`, its locals' types
 unfoldable pub paramsHere : List ℕ → ℕ → List (ℕ × IrType)
@@ -99,6 +115,20 @@ functionHere s at stop = record {
   locals = typesHere (le 2 s (localsAt s at)) s (localsAt s at + 2);
 }
 
+-- the functions from p on; the ids of all of a program's functions, and how many locals the function at `at` has
+unfoldable pub functionsHere : List ℕ → ℕ → ℕ → List IrFunction
+functionsHere s p end = gather 51 51 functionOf (readRecords s p end)
+
+abbrev pub idsOfAll : List ℕ → List ℕ
+idsOfAll s = functionIds (functionsHere s 6 (length s))
+
+abbrev pub localCount : List ℕ → ℕ → ℕ
+localCount s at = length (typesHere (le 2 s (localsAt s at)) s (localsAt s at + 2))
+
+-- the functions of a sheet that passed stand from 6 on
+abbrev pub FunctionsFrom : List ℕ → ℕ → Type 0
+FunctionsFrom s p = Fine s p (length s) (many Class.irFunction (many Class.functionName done))
+
 -- a function's record at `at` that stops at `stop`, its fields and its blocks as they passed
 pub record FunctionAt (s : List ℕ) (at stop : ℕ) : Type 0 where
   pub first : firstBlock s at ≤ stop
@@ -129,3 +159,9 @@ pub record InstrPlace (s : List ℕ) (q k : ℕ) : Type 0 where
   pub typed : hasType k ≡ true → okType (le 2 s (q + typeOffset k)) (le 2 s (q + typeOffset k + 2)) ≡ true
   pub kind-is : (stop : ℕ) → kindOf (instrHere k s q stop) ≡ k
   pub gives : (stop : ℕ) → rawOpt (resultType (instrHere k s q stop)) ≡ byRule (ruleNumber k) (typeHere s (q + typeOffset k))
+
+-- what the code knows of a terminator of kind k at q
+pub record TermPlace (s : List ℕ) (q k : ℕ) : Type 0 where
+  pub low : 90 ≤ k
+  pub high : k ≤ 93
+  pub fits : q + pick (eqb k 91) 12 (pick (eqb k 93) 6 8) ≤ length s

@@ -4,15 +4,19 @@ ghost use mathlib.Core.Bool.{Bool, true, false};
 ghost use mathlib.Core.List.{List, [], _∷_};
 ghost use Prim.Native.Nat.{ℕ, _+_, _-_, _*_, _/_, _%_, _^_, _≤_, _<_};
 ghost use lib.ListN.{length};
+ghost use Rattle.definitions.specs.Answers.{verifySheet};
 ghost use Rattle.definitions.specs.Fields.{le};
 ghost use mathlib.Core.List.{_++_};
 ghost use Rattle.definitions.specs.Ir.{resultType};
 ghost use Rattle.definitions.specs.Records.{readRecords, typeFrom, optFrom};
-ghost use Rattle.definitions.specs.Verify.{Defined, defineParams, defineResult};
+ghost use Rattle.definitions.specs.Verify.{Defined, defineParams, defineResult, defineResults, defineBlocks, blockIds, verifyInstr, verifyTerminator, verifyBlock, verifyBlocks, verifyFunction, verifyFunctions};
 ghost use Rattle.ir.specs.Types.{asType};
-ghost use Rattle.verify.specs.Answers.{checkedOf, named};
-ghost use Rattle.verify.specs.Positions.{rawOpt, typeHere, instrHere, paramsHere, localsAt, firstBlock, FunctionAt, BlockFrom, InstrPlace};
+ghost use Rattle.verify.specs.Answers.{answerOf, checkedOf, named};
+ghost use Rattle.verify.specs.Positions.{rawOpt, typeHere, instrHere, sizeHere, instrsHere, termHere, blockHere, paramsHere, localsAt, firstBlock, blocksHere, functionHere, functionsHere, idsOfAll, localCount, FunctionsFrom, FunctionAt, BlockFrom, InstrPlace, TermPlace};
 ghost use Rattle.verify.specs.Entries.{Entry, resultEntry, paramEntries, blockEntries, entriesHere, firstPlace, firstType, Same};
+
+mod refs; // references to values, blocks, functions and locals
+
 use ir::BlockId;
 use ir::FunctionId;
 use ir::IrType;
@@ -38,6 +42,14 @@ pub enum VerifyError {
     UndefinedLocal(Name, LocalId),
     UndefinedFunction(Name, FunctionId),
     ResultOnNone(Name, u16),
+}
+
+// The answer to a sheet. `Malformed` has the place of the fault.
+pub enum Answer {
+    Accepted,
+    TooLong,
+    Malformed(usize),
+    Refused(VerifyError),
 }
 
 // What a part of the check gives: the Rust's `Result<(), VerifyError>`.
@@ -114,10 +126,14 @@ fn find_in_block(s: &[u8], from: usize, end: usize, v: u16) -> usize
 }
 
 // The place of the first definition of v in the function at `at`, a parameter or an instruction; 0 if there is none.
+// 65,535 stands for no result, and is the value of none.
 fn find(s: &[u8], at: usize, first: usize, stop: usize, v: u16) -> usize
-    requires { ⌜ FunctionAt (now s) at stop × ((first ≡ firstBlock (now s) at) × (v < 65535)) ⌝ }
+    requires { ⌜ FunctionAt (now s) at stop × (first ≡ firstBlock (now s) at) ⌝ }
     ensures { λ r. ⌜ r ≡ firstPlace v (entriesHere (now (s .entry)) at first stop) ⌝ }
 {
+    if v == 65535 {
+        return 0;
+    }
     let p = find_param(s, at, v);
     if p != 0 {
         return p;
@@ -136,7 +152,7 @@ fn find(s: &[u8], at: usize, first: usize, stop: usize, v: u16) -> usize
 
 // The type of the value v in the function at `at`, as a number; NO_TYPE if it is not defined there.
 fn defined_type(s: &[u8], at: usize, first: usize, stop: usize, v: u16) -> usize
-    requires { ⌜ FunctionAt (now s) at stop × ((first ≡ firstBlock (now s) at) × (v < 65535)) ⌝ }
+    requires { ⌜ FunctionAt (now s) at stop × (first ≡ firstBlock (now s) at) ⌝ }
     ensures { λ r. ⌜ (r ≡ rawOpt (firstType v (entriesHere (now (s .entry)) at first stop))) × (r < 2 ^ 32) ⌝ }
 {
     let p = find(s, at, first, stop, v);
@@ -188,15 +204,250 @@ fn define_result(
     requires { ⌜ FunctionAt (now s) at stop × ((first ≡ firstBlock (now s) at) × InstrPlace (now s) q kind) ⌝ }
     ensures { λ r. ⌜ ((e : ℕ) (ds : Defined) (before after : List Entry) → Same ds before → entriesHere (now (s .entry)) at first stop ≡ before ++ (resultEntry q (optFrom (le 2 (now (s .entry)) (q + 6))) (instrHere kind (now (s .entry)) q e) ++ after) → checkedOf r ≡ named name (defineResult (instrHere kind (now (s .entry)) q e) (optFrom (le 2 (now (s .entry)) (q + 6))) ds)) ⌝ }
 {
-    let v = fields::read_u16(s, q + 6);
-    if v == 65535 {
+    let result = fields::read_u16(s, q + 6);
+    if result == 65535 {
         return Checked::Passed;
     }
-    if result_type(s, q, kind as usize) == NO_TYPE {
+    let given = result_type(s, q, kind as usize);
+    let place = find(s, at, first, stop, result);
+    if given == NO_TYPE {
         return Checked::Failed(VerifyError::ResultOnNone(Name(name), kind));
     }
-    if find(s, at, first, stop, v) != q {
-        return Checked::Failed(VerifyError::DuplicateValueDef(Name(name), ValueId(v)));
+    if place != q {
+        return Checked::Failed(VerifyError::DuplicateValueDef(Name(name), ValueId(result)));
     }
     Checked::Passed
+}
+
+// The instructions from `from` on, in the block that stops at `end`: each result is defined once.
+fn define_block(
+    s: &[u8],
+    at: usize,
+    first: usize,
+    stop: usize,
+    name: u16,
+    from: usize,
+    end: usize,
+) -> Checked
+    requires { ⌜ FunctionAt (now s) at stop × ((first ≡ firstBlock (now s) at) × (BlockFrom (now s) from end × (end ≤ length (now s)))) ⌝ }
+    ensures { λ r. ⌜ ((ds : Defined) (before after : List Entry) → Same ds before → entriesHere (now (s .entry)) at first stop ≡ before ++ (blockEntries (readRecords (now (s .entry)) from end) ++ after) → checkedOf r ≡ named name (defineResults (instrsHere (now (s .entry)) from end) ds)) ⌝ }
+{
+    let mut q = from;
+    while q < end {
+        let kind = fields::read_u16(s, q + 4);
+        if 81 < kind {
+            return Checked::Passed;
+        }
+        match define_result(s, at, first, stop, name, q, kind) {
+            Checked::Passed => {}
+            Checked::Failed(e) => {
+                return Checked::Failed(e);
+            }
+        }
+        q += fields::read(s, q, 4);
+    }
+    Checked::Passed
+}
+
+// The blocks of the function at `at`: each result is defined once, and is no parameter.
+fn define_blocks(s: &[u8], at: usize, first: usize, stop: usize, name: u16) -> Checked
+    requires { ⌜ FunctionAt (now s) at stop × (first ≡ firstBlock (now s) at) ⌝ }
+    ensures { λ r. ⌜ ((ds : Defined) → Same ds (paramEntries (at + 16) (paramsHere (now (s .entry)) at)) → checkedOf r ≡ named name (defineBlocks (blocksHere (now (s .entry)) first stop) ds)) ⌝ }
+{
+    let mut b = first;
+    while b < stop {
+        let end = b + fields::read(s, b, 4);
+        match define_block(s, at, first, stop, name, b + 8, end) {
+            Checked::Passed => {}
+            Checked::Failed(e) => {
+                return Checked::Failed(e);
+            }
+        }
+        b = end;
+    }
+    Checked::Passed
+}
+
+// The instruction of a kind at q that stops at `end` (`verify_instr`).
+fn verify_instr(
+    s: &[u8],
+    at: usize,
+    first: usize,
+    stop: usize,
+    name: u16,
+    q: usize,
+    end: usize,
+    kind: u16,
+) -> Checked
+    requires { ⌜ (FunctionAt (now s) at stop × ((first ≡ firstBlock (now s) at) × FunctionsFrom (now s) 6)) × (InstrPlace (now s) q kind × ((q + sizeHere kind ≤ end) × (end ≤ length (now s)))) ⌝ }
+    ensures { λ r. ⌜ ((ds : Defined) → Same ds (entriesHere (now (s .entry)) at first stop) → checkedOf r ≡ named name (verifyInstr (instrHere kind (now (s .entry)) q end) ds (idsOfAll (now (s .entry))) (localCount (now (s .entry)) at))) ⌝ }
+{
+    if kind == 60 {
+        return Checked::Passed;
+    }
+    if kind <= 70 {
+        return refs::verify_binary(s, at, first, stop, name, q);
+    }
+    match kind {
+        71 => refs::check_values(s, at, first, stop, name, q + 12, 1),
+        72 => match refs::check_values(s, at, first, stop, name, q + 8, 1) {
+            Checked::Passed => refs::check_values(s, at, first, stop, name, q + 18, 1),
+            Checked::Failed(e) => Checked::Failed(e),
+        },
+        74 => refs::check_values(s, at, first, stop, name, q + 12, 1),
+        75 => refs::check_local(s, at, name, fields::read_u16(s, q + 8)),
+        76 => match refs::check_local(s, at, name, fields::read_u16(s, q + 8)) {
+            Checked::Passed => refs::check_values(s, at, first, stop, name, q + 10, 1),
+            Checked::Failed(e) => Checked::Failed(e),
+        },
+        77 => match refs::check_function(s, name, fields::read_u16(s, q + 8)) {
+            Checked::Passed => refs::check_values(
+                s,
+                at,
+                first,
+                stop,
+                name,
+                q + 14,
+                (end - (q + 14)) / 2,
+            ),
+            Checked::Failed(e) => Checked::Failed(e),
+        },
+        78 => refs::check_values(s, at, first, stop, name, q + 8, 1),
+        79 => refs::check_values(s, at, first, stop, name, q + 8, 2),
+        80 => refs::check_values(s, at, first, stop, name, q + 10, (end - (q + 10)) / 2),
+        _ => Checked::Passed,
+    }
+}
+
+// The terminator of a kind at q (`verify_terminator`).
+fn verify_terminator(
+    s: &[u8],
+    at: usize,
+    first: usize,
+    stop: usize,
+    name: u16,
+    q: usize,
+    kind: u16,
+) -> Checked
+    requires { ⌜ (FunctionAt (now s) at stop × (first ≡ firstBlock (now s) at)) × TermPlace (now s) q kind ⌝ }
+    ensures { λ r. ⌜ ((ds : Defined) → Same ds (entriesHere (now (s .entry)) at first stop) → checkedOf r ≡ named name (verifyTerminator (termHere kind (now (s .entry)) q) (typeHere (now (s .entry)) (at + 10)) ds (blockIds (blocksHere (now (s .entry)) first stop)))) ⌝ }
+{
+    match kind {
+        90 => refs::check_block(s, first, stop, name, fields::read_u16(s, q + 6)),
+        91 => refs::verify_branch(s, at, first, stop, name, q),
+        92 => refs::verify_return(s, at, first, stop, name, q),
+        _ => Checked::Passed,
+    }
+}
+
+// The block at b that stops at `end` (`verify_block`).
+fn verify_block(
+    s: &[u8],
+    at: usize,
+    first: usize,
+    stop: usize,
+    name: u16,
+    b: usize,
+    end: usize,
+) -> Checked
+    requires { ⌜ (FunctionAt (now s) at stop × ((first ≡ firstBlock (now s) at) × FunctionsFrom (now s) 6)) × (BlockFrom (now s) (b + 8) end × (end ≤ length (now s))) ⌝ }
+    ensures { λ r. ⌜ ((ds : Defined) → Same ds (entriesHere (now (s .entry)) at first stop) → checkedOf r ≡ named name (verifyBlock (blockHere (now (s .entry)) b end) (functionHere (now (s .entry)) at stop) ds (idsOfAll (now (s .entry))))) ⌝ }
+{
+    let id = fields::read_u16(s, b + 6);
+    let mut q = b + 8;
+    while q < end {
+        let kind = fields::read_u16(s, q + 4);
+        if 81 < kind {
+            return verify_terminator(s, at, first, stop, name, q, kind);
+        }
+        let next = q + fields::read(s, q, 4);
+        match verify_instr(s, at, first, stop, name, q, next, kind) {
+            Checked::Passed => {}
+            Checked::Failed(e) => {
+                return Checked::Failed(e);
+            }
+        }
+        q = next;
+    }
+    Checked::Failed(VerifyError::MissingTerminator(Name(name), BlockId(id)))
+}
+
+// All blocks of the function at `at`.
+fn verify_blocks(s: &[u8], at: usize, first: usize, stop: usize, name: u16) -> Checked
+    requires { ⌜ FunctionAt (now s) at stop × ((first ≡ firstBlock (now s) at) × FunctionsFrom (now s) 6) ⌝ }
+    ensures { λ r. ⌜ ((ds : Defined) → Same ds (entriesHere (now (s .entry)) at first stop) → checkedOf r ≡ named name (verifyBlocks (blocksHere (now (s .entry)) first stop) (functionHere (now (s .entry)) at stop) ds (idsOfAll (now (s .entry))))) ⌝ }
+{
+    let mut b = first;
+    while b < stop {
+        let end = b + fields::read(s, b, 4);
+        match verify_block(s, at, first, stop, name, b, end) {
+            Checked::Passed => {}
+            Checked::Failed(e) => {
+                return Checked::Failed(e);
+            }
+        }
+        b = end;
+    }
+    Checked::Passed
+}
+
+// The function at `at` (`verify_function`).
+fn verify_function(s: &[u8], at: usize, stop: usize, name: u16) -> Checked
+    requires { ⌜ FunctionAt (now s) at stop × FunctionsFrom (now s) 6 ⌝ }
+    ensures { λ r. ⌜ checkedOf r ≡ named name (verifyFunction (functionHere (now (s .entry)) at stop) (idsOfAll (now (s .entry)))) ⌝ }
+{
+    let locals = at + 16 + 6 * fields::read(s, at + 14, 2);
+    let first = locals + 2 + 4 * fields::read(s, locals, 2);
+    match define_params(s, at, first, stop, name) {
+        Checked::Passed => {}
+        Checked::Failed(e) => {
+            return Checked::Failed(e);
+        }
+    }
+    match define_blocks(s, at, first, stop, name) {
+        Checked::Passed => {}
+        Checked::Failed(e) => {
+            return Checked::Failed(e);
+        }
+    }
+    verify_blocks(s, at, first, stop, name)
+}
+
+// The functions of the program from 6 on (`verify_program`).
+fn verify_program(s: &[u8]) -> Checked
+    requires { ⌜ FunctionsFrom (now s) 6 ⌝ }
+    ensures { λ r. ⌜ checkedOf r ≡ verifyFunctions (functionsHere (now (s .entry)) 6 (length (now (s .entry)))) (idsOfAll (now (s .entry))) ⌝ }
+{
+    let mut at = 6;
+    while at < s.len() {
+        if fields::read_u16(s, at + 4) != 51 {
+            return Checked::Passed;
+        }
+        let stop = at + fields::read(s, at, 4);
+        let name = fields::read_u16(s, at + 8);
+        match verify_function(s, at, stop, name) {
+            Checked::Passed => {}
+            Checked::Failed(e) => {
+                return Checked::Failed(e);
+            }
+        }
+        at = stop;
+    }
+    Checked::Passed
+}
+
+// The verifier's answer to any bytes: 1, 40, then what `verify_program` says.
+pub fn verify(sheet: &[u8]) -> Answer
+    ensures { λ r. ⌜ answerOf r ≡ verifySheet (now (sheet .entry)) ⌝ }
+{
+    if 32768 < sheet.len() {
+        return Answer::TooLong;
+    }
+    match sheet::program_form(sheet) {
+        sheet::Form::Good => match verify_program(sheet) {
+            Checked::Passed => Answer::Accepted,
+            Checked::Failed(e) => Answer::Refused(e),
+        },
+        sheet::Form::Bad(p) => Answer::Malformed(p),
+    }
 }

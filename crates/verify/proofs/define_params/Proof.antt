@@ -7,7 +7,7 @@ use lib.ListN.{length}
 use Rattle.definitions.specs.Fields.{le}
 use Rattle.verify.specs.Positions.{firstBlock}
 use Rattle.verify.specs.Entries.{entriesHere, firstPlace}
-use Rattle.verify.proofs.Params.{Left, start, value-low, twice, next, over}
+use Rattle.verify.proofs.Params.{Left, start, twice, next, over}
 use Rattle.verify.proofs.define_params.Statement.{statement}
 use Rattle.verify.proofs.define_params.Tie as tie
 
@@ -39,7 +39,7 @@ read-u16-requires-2 c κs =
 
 find-requires : tie.Need-find-requires Inv-loop μ-loop
 find-requires c κs =
-    (c .before .before .before .before .before .pre .0, (c .before .before .before .before .before .pre .1, omega (arith, c .read-u162 .ensures, value-low (c .before .before .before .before .before .pre .0) (c .before .before .before .before .before .pre .1) _ _ _ (c .before .before .loop .inv) (c .before .loop-test .taken))))
+    (c .before .before .before .before .before .pre .0, c .before .before .before .before .before .pre .1)
 
 returns : tie.Need-returns Inv-loop μ-loop
 returns c =

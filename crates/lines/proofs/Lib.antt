@@ -1,0 +1,4 @@
+pub mod Digits
+pub mod Spaced
+pub mod Cut
+pub mod Examples

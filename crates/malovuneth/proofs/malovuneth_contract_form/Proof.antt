@@ -1,0 +1,28 @@
+-- `malovuneth::malovuneth_contract_form`: good, or the place. Assumes nothing.
+use mathlib.Core.Path.{_≡_, refl, _∙_}
+use Rattle.sheet.specs.Forms.{formOf}
+use Rattle.malovuneth.proofs.Rows.{of-form}
+use borrow.Author.Needs.{needs}
+use Rattle.malovuneth.proofs.malovuneth_contract_form.Statement.{statement}
+use Rattle.malovuneth.proofs.malovuneth_contract_form.Tie as tie
+
+contract-form-requires : tie.Need-contract-form-requires
+contract-form-requires c κs = search needs
+
+enum-told : tie.Need-enum-told
+enum-told c = search needs
+
+enum-known-p : tie.Need-enum-known-p
+enum-known-p c = search needs
+
+returns : tie.Need-returns
+unfolding formOf
+returns c = of-form (c .before .enum-told .given .1) (c .before .before .before .contract-form .ensures)
+
+returns-2 : tie.Need-returns-2
+unfolding formOf
+returns-2 c = of-form (c .before .before .p .given .1) (c .before .before .before .before .contract-form .ensures)
+
+pub malovuneth-contract-form-spec : {M : Type 1} → statement M
+malovuneth-contract-form-spec =
+    tie.close (tie.spec contract-form-requires enum-told enum-known-p returns returns-2)

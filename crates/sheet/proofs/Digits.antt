@@ -1,0 +1,52 @@
+-- The fields of a code, one digit at a time. Assumes nothing.
+use mathlib.Core.Path.{_≡_, ap}
+use mathlib.Core.List.{List, [], _∷_}
+use Prim.Native.Nat.{ℕ, zero, suc, _-_, _/_, _%_, _^_, _<_, _≤_}
+use native.Mathlib.Nat.{pow-suc}
+use native.Mathlib.Omega.{arith}
+use lib.Dec.{eqb}
+use borrow.Author.Tests.{ne-eqb}
+use Rattle.definitions.specs.Grammar.{Field}
+use Rattle.definitions.specs.Records.{pick, past, pastAll}
+use Rattle.definitions.proofs.Sheets.Passed.{field-past, past-zero}
+use Rattle.sheet.specs.Codes.{fieldOf, fieldsFrom, fieldsOf}
+
+-- the bound on the digits does not matter, if the code has no more
+enough : (n x : ℕ) → x < 16 ^ n → fieldsFrom (suc n) x ≡ fieldsFrom n x
+unfolding fieldsFrom
+enough zero x h = let z : x ≡ 0 = omega arith in rw z
+enough (suc n) x h =
+    let l : x / 16 < 16 ^ n = omega (arith, pow-suc 16 n) in
+    ap (λ (fs : List Field). pick (eqb x 0) [] (fieldOf (x % 16) ∷ fs)) (enough n (x / 16) l)
+
+next-digit : (x : ℕ) → x < 1048576 → (x ≡ 0 → ⊥) → fieldsOf x ≡ fieldOf (x % 16) ∷ fieldsOf (x / 16)
+unfolding fieldsFrom
+next-digit x h z = rw (ne-eqb x 0 z, enough 4 (x / 16) (omega arith))
+
+-- the fields before `place` are valid, and those of the code `left` are left
+pub record Passing (s : List ℕ) (at stop code place left : ℕ) : Type 0 where
+  pub low : at ≤ place
+  pub high : place ≤ stop
+  pub small : left < 1048576
+  pub same : pastAll (fieldsOf code) s stop at ≡ pastAll (fieldsOf left) s stop place
+
+module _ {s : List ℕ} {at stop code place left : ℕ} (p : Passing s at stop code place left) where
+  pub all-passed : left ≡ 0 → place ≡ pastAll (fieldsOf code) s stop at
+  unfolding fieldsFrom pastAll
+  all-passed z = rw (p .same, z)
+
+  module _ (a : 0 < at) (z : left ≡ 0 → ⊥) {x : ℕ} (e : x ≡ past (fieldOf (left % 16)) s stop place) where
+    one-more : pastAll (fieldsOf code) s stop at ≡ pastAll (fieldsOf (left / 16)) s stop x
+    unfolding pastAll
+    one-more = let l : at ≤ place = p .low in rw (p .same, next-digit left (p .small) z, ne-eqb place 0 (λ y. omega arith), e)
+
+    pub not-passed : x ≡ 0 → 0 ≡ pastAll (fieldsOf code) s stop at
+    not-passed y = rw (one-more, y, past-zero (fieldsOf (left / 16)) s stop)
+
+    pub passed : (x ≡ 0 → ⊥) → Passing s at stop code x (left / 16)
+    passed y =
+        let f = field-past (fieldOf (left % 16)) s stop place (p .high) in
+        let m : left < 1048576 = p .small in
+        let l : place ≤ x = rw e (f .1 (rw e at y)) in
+        let k : at ≤ place = p .low in
+        record { low = omega arith; high = rw e (f .0); small = omega arith; same = one-more }

@@ -1,0 +1,195 @@
+-- One field, way by way through the code: what `past` is there, over the entry. Assumes nothing.
+use mathlib.Core.Path.{_≡_, subst⁻¹}
+use mathlib.Core.Bool.{Bool, true, false}
+use mathlib.Core.List.{List, _∷_}
+use Prim.Native.Nat.{ℕ, suc, _+_, _-_, _*_, _/_, _%_, _<_, _≤_}
+use native.Mathlib.Nat.{mul-suc, mul-div-le}
+use native.Mathlib.Omega.{arith}
+use lib.Dec.{leb, eqb}
+use borrow.Author.Tests.{le-leb, lt-leb, eq-eqb, ne-eqb}
+use Rattle.definitions.specs.Fields.{le}
+use Rattle.definitions.specs.Grammar.{Entry, upTo, number, irType, valueAndType, nameAndType, Field, single, counted, listed}
+use Rattle.definitions.specs.Records.{pick, sizeOf, okType, okItem, okItems, past}
+use Rattle.sheet.specs.Codes.{fields, fieldIn, fieldOf, entryOf}
+use Rattle.sheet.proofs.Arms.{Others, passed-over}
+
+-- a type
+module _ {t n tag name : ℕ} (et : tag ≡ t) (en : name ≡ n) where
+  pub struct-type : tag ≡ 3 → leb name 65534 ≡ okType t n
+  unfolding okType
+  struct-type e = rw (← et, ← en, e)
+
+  pub plain-type : (tag ≡ 3 → ⊥) → tag ≤ 4 → eqb name 0 ≡ okType t n
+  unfolding okType
+  plain-type z h = rw (← et, ← en, ne-eqb tag 3 z, le-leb tag 4 h)
+
+  pub no-type : (tag ≡ 3 → ⊥) → 4 < tag → false ≡ okType t n
+  unfolding okType
+  no-type z h = rw (← et, ← en, ne-eqb tag 3 z, lt-leb tag 4 h)
+
+-- the entries of lists, by the list's digit: their size, and the code's ways through `okItem`
+abbrev OtherEntry : ℕ → Type 0
+OtherEntry d = ((Unit {0} × (d ≡ 10 → ⊥)) × (d ≡ 11 → ⊥)) × (d ≡ 13 → ⊥)
+
+module _ {d : ℕ} where
+  is-param : d ≡ 10 → entryOf d ≡ valueAndType
+  unfolding entryOf
+  is-param e = rw e
+
+  is-type : d ≡ 11 → entryOf d ≡ irType
+  unfolding entryOf
+  is-type e = rw e
+
+  is-name : d ≡ 13 → entryOf d ≡ upTo 65534
+  unfolding entryOf
+  is-name e = rw e
+
+  is-pair : OtherEntry d → entryOf d ≡ nameAndType
+  unfolding entryOf
+  is-pair o = rw (ne-eqb d 10 (o .0 .0 .1), ne-eqb d 11 (o .0 .1), ne-eqb d 13 (o .1))
+
+  pub param-size : d ≡ 10 → 6 ≡ sizeOf (entryOf d)
+  unfolding sizeOf
+  param-size e = rw (is-param e)
+
+  pub type-size : d ≡ 11 → 4 ≡ sizeOf (entryOf d)
+  unfolding sizeOf
+  type-size e = rw (is-type e)
+
+  pub name-size : d ≡ 13 → 2 ≡ sizeOf (entryOf d)
+  unfolding sizeOf
+  name-size e = rw (is-name e)
+
+  pub pair-size : OtherEntry d → 4 ≡ sizeOf (entryOf d)
+  unfolding sizeOf
+  pair-size o = rw (is-pair o)
+
+module _ (s : List ℕ) (at d : ℕ) where
+  pub param-ok : d ≡ 10 → {a : Bool} → a ≡ leb (le 2 s at) 65534 → {b : Bool} → b ≡ okType (le 2 s (at + 2)) (le 2 s (at + 2 + 2)) → a ≡ true → b ≡ okItem (entryOf d) s at
+  unfolding okItem
+  param-ok e p q y = rw (is-param e, ← p, y) q
+
+  pub param-bad : d ≡ 10 → {a : Bool} → a ≡ leb (le 2 s at) 65534 → a ≡ false → a ≡ okItem (entryOf d) s at
+  unfolding okItem
+  param-bad e p y = rw (is-param e, ← p, y)
+
+  pub type-ok : d ≡ 11 → {a : Bool} → a ≡ okType (le 2 s at) (le 2 s (at + 2)) → a ≡ okItem (entryOf d) s at
+  unfolding okItem
+  type-ok e p = rw (is-type e) p
+
+  pub name-ok : d ≡ 13 → {a : Bool} → a ≡ leb (le 2 s at) 65534 → a ≡ okItem (entryOf d) s at
+  unfolding okItem
+  name-ok e p = rw (is-name e) p
+
+  pub pair-ok : OtherEntry d → {a : Bool} → a ≡ leb (le 2 s at) 65534 → {b : Bool} → b ≡ leb (le 2 s (at + 2)) 65534 → a ≡ true → b ≡ okItem (entryOf d) s at
+  unfolding okItem
+  pair-ok o p q y = rw (is-pair o, ← p, y) q
+
+  pub pair-bad : OtherEntry d → {a : Bool} → a ≡ leb (le 2 s at) 65534 → a ≡ false → a ≡ okItem (entryOf d) s at
+  unfolding okItem
+  pair-bad o p y = rw (is-pair o, ← p, y)
+
+-- a run of entries: those before `place` are valid, and `left` are left
+pub record Left (e : Entry) (s : List ℕ) (at count place left : ℕ) : Type 0 where
+  pub places : place + sizeOf e * left ≡ at + sizeOf e * count
+  pub same : okItems e count s at ≡ okItems e left s place
+
+times-more : (a n : ℕ) → 0 < n → a * n ≡ a + a * (n - 1)
+times-more a n h = go n (n - 1) (omega arith)
+  where
+    go : (m k : ℕ) → m ≡ suc k → a * m ≡ a + a * k
+    go m k q = rw (q, mul-suc) (omega arith)
+
+items-more : (e : Entry) (n : ℕ) (s : List ℕ) (at : ℕ) → 0 < n → okItems e n s at ≡ pick (okItem e s at) (okItems e (n - 1) s (at + sizeOf e)) false
+unfolding okItems
+items-more e n s at h = go n (n - 1) (omega arith)
+  where
+    go : (m k : ℕ) → m ≡ suc k → okItems e m s at ≡ pick (okItem e s at) (okItems e k s (at + sizeOf e)) false
+    go m k q = rw q
+
+module _ {e : Entry} {s : List ℕ} {at count place left : ℕ} (l : Left e s at count place left) where
+  pub none-left : left ≤ 0 → true ≡ okItems e count s at
+  unfolding okItems
+  none-left h = let z : left ≡ 0 = omega arith in rw (l .same, z)
+
+  module _ (h : 0 < left) where
+    pub within : {n : ℕ} → at + sizeOf e * count ≤ n → place + sizeOf e ≤ n
+    within {n} k = omega (arith, times-more (sizeOf e) left h, l .places)
+
+    module _ {b : Bool} (o : b ≡ okItem e s place) where
+      pub stopped : b ≡ false → false ≡ okItems e count s at
+      stopped y = rw (l .same, items-more e left s place h, ← o, y)
+
+      pub onward : b ≡ true → {z : ℕ} → z ≡ sizeOf e → Left e s at count (place + z) (left - 1)
+      onward y f = record { places = rw f (omega (arith, times-more (sizeOf e) left h, l .places)); same = rw (f, l .same, items-more e left s place h, ← o, y) }
+
+module _ (e : Entry) (s : List ℕ) (at stop : ℕ) where
+  pub single-short : stop - at < sizeOf e → 0 ≡ past (single e) s stop at
+  unfolding past
+  single-short h = rw (lt-leb (sizeOf e) (stop - at) h)
+
+  pub single-good : sizeOf e ≤ stop - at → okItem e s at ≡ true → at + sizeOf e ≡ past (single e) s stop at
+  unfolding past
+  single-good h o = rw (le-leb (sizeOf e) (stop - at) h, o)
+
+  pub single-bad : sizeOf e ≤ stop - at → okItem e s at ≡ false → 0 ≡ past (single e) s stop at
+  unfolding past
+  single-bad h o = rw (le-leb (sizeOf e) (stop - at) h, o)
+
+  pub count-short : stop - at < 2 → 0 ≡ past (counted e) s stop at
+  unfolding past
+  count-short h = rw (lt-leb 2 (stop - at) h)
+
+  module _ (r : 2 ≤ stop - at) {x : ℕ} (ex : x ≡ le 2 s at) {z : ℕ} (ez : z ≡ sizeOf e) where
+    counting : past (counted e) s stop at ≡ pick (leb (z * x) (stop - (at + 2))) (pick (okItems e x s (at + 2)) (at + 2 + z * x) 0) 0
+    unfolding past
+    counting = rw (le-leb 2 (stop - at) r, ← ex, ← ez)
+
+    pub counted-short : stop - (at + 2) < z * x → 0 ≡ past (counted e) s stop at
+    counted-short h = rw (counting, lt-leb (z * x) (stop - (at + 2)) h)
+
+    pub counted-fits : z * x ≤ stop - (at + 2) → {n : ℕ} → stop ≤ n → at + 2 + sizeOf e * x ≤ n
+    counted-fits h k = rw (← ez) (omega arith)
+
+    pub counted-good : z * x ≤ stop - (at + 2) → {b : Bool} → b ≡ okItems e x s (at + 2) → b ≡ true → at + 2 + z * x ≡ past (counted e) s stop at
+    counted-good h o y = rw (counting, le-leb (z * x) (stop - (at + 2)) h, ← o, y)
+
+    pub counted-bad : z * x ≤ stop - (at + 2) → {b : Bool} → b ≡ okItems e x s (at + 2) → b ≡ false → 0 ≡ past (counted e) s stop at
+    counted-bad h o y = rw (counting, le-leb (z * x) (stop - (at + 2)) h, ← o, y)
+
+  module _ {z : ℕ} (ez : z ≡ sizeOf e) where
+    listing : past (listed e) s stop at ≡ pick (eqb ((stop - at) % z) 0) (pick (okItems e ((stop - at) / z) s at) stop 0) 0
+    unfolding past
+    listing = rw (← ez)
+
+    pub listed-odd : ((stop - at) % z ≡ 0 → ⊥) → 0 ≡ past (listed e) s stop at
+    listed-odd m = rw (listing, ne-eqb ((stop - at) % z) 0 m)
+
+    pub listed-fits : at ≤ stop → {n : ℕ} → stop ≤ n → at + sizeOf e * ((stop - at) / z) ≤ n
+    listed-fits h k = rw (← ez) (omega (arith, mul-div-le (stop - at) z))
+
+    pub listed-good : (stop - at) % z ≡ 0 → {b : Bool} → b ≡ okItems e ((stop - at) / z) s at → b ≡ true → stop ≡ past (listed e) s stop at
+    listed-good m o y = rw (listing, eq-eqb ((stop - at) % z) 0 m, ← o, y)
+
+    pub listed-bad : (stop - at) % z ≡ 0 → {b : Bool} → b ≡ okItems e ((stop - at) / z) s at → b ≡ false → 0 ≡ past (listed e) s stop at
+    listed-bad m o y = rw (listing, eq-eqb ((stop - at) % z) 0 m, ← o, y)
+
+-- a field by its digit
+pub by-digit : (s : List ℕ) (stop at : ℕ) {d j r : ℕ} → d ≡ j → r ≡ past (fieldOf j) s stop at → r ≡ past (fieldOf d) s stop at
+by-digit s stop at {r = r} e h = subst⁻¹ (λ (i : ℕ). r ≡ past (fieldOf i) s stop at) e h
+
+abbrev pub digit : ℕ × Field → ℕ
+digit f = f .0
+
+-- no field takes no byte
+pub nothing-past : (s : List ℕ) (stop at : ℕ) → at ≡ past (single (number 0)) s stop at
+unfolding past sizeOf okItem
+nothing-past s stop at = rw (le-leb 0 (stop - at) (omega arith)) (omega arith)
+
+skips : (d : ℕ) (f : ℕ × Field) (fs : List (ℕ × Field)) → (d ≡ digit f → ⊥) → fieldIn d (f ∷ fs) ≡ fieldIn d fs
+unfolding fieldIn
+skips d f fs z = rw (ne-eqb d (f .0) z)
+
+pub no-digit : (s : List ℕ) (stop at d : ℕ) → Others digit d (Unit {0}) fields → at ≡ past (fieldOf d) s stop at
+unfolding fieldIn
+no-digit s stop at d o = rw (passed-over digit d (fieldIn d) (skips d) (Unit {0}) fields o) (nothing-past s stop at)

@@ -1,0 +1,14 @@
+-- For the proofs of other crates: `Nodes` opens a record of a sheet that passed, and `Skips` says where its children start and what its fields are.
+mod Arms
+mod Bodies
+mod Checks
+mod Counts
+mod Digits
+mod Fields
+mod Heads
+pub mod Nodes
+mod Patterns
+mod Rows
+pub mod Skips
+mod Widths
+mod Within

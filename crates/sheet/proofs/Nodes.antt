@@ -1,0 +1,63 @@
+-- The record that stands at a place of a sheet that passed, as the reader gives it. Assumes nothing.
+use mathlib.Core.Path.{_≡_, sym, ap, _∙_}
+use mathlib.Core.List.{List}
+use Prim.Native.Nat.{ℕ, _+_, _-_, _<_, _≤_}
+use native.Mathlib.Omega.{arith}
+use Rattle.definitions.specs.Grammar.{Class, Field, Pattern, rows}
+use Rattle.definitions.specs.Records.{rowIn, rowFields, readValues, node, tcons, readRecords}
+use Rattle.definitions.proofs.Sheets.Passed.{Head, Fine, ends, goes, read-step}
+use Rattle.sheet.specs.Passed.{Passed, kindOf, stopOf, bodyOf, valuesOf, childrenOf}
+use Rattle.sheet.proofs.Skips.{skipAll, skipValues, children-start, fields-read}
+
+pub record Node (s : List ℕ) (at end : ℕ) : Type 0 where
+  pub class : Class
+  pub fields : List Field
+  pub pattern : Pattern
+  pub head : Head s at end class fields pattern (bodyOf s at) (stopOf s at)
+  pub kids : Fine s (bodyOf s at) (stopOf s at) pattern
+  pub rest : Passed s (stopOf s at) end
+  pub is : readRecords s at end ≡ tcons (node at (kindOf s at) (valuesOf s at) (childrenOf s at)) (readRecords s (stopOf s at) end)
+
+opened : {s : List ℕ} {at end : ℕ} {q : Pattern} → Fine s at end q → at < end → Node s at end
+unfolding bodyOf valuesOf rowFields
+opened (ends z m) h = absurd (omega arith)
+opened {s} {at} {end} (goes {b = b} {stop = stop} {p = p} {c = c} {fs = fs} hd a kids rest) h =
+    let f : rowFields (rowIn (kindOf s at) rows) ≡ fs = ap rowFields (hd .is) in
+    let e : stop ≡ stopOf s at = hd .stop-is in
+    let g : b ≡ bodyOf s at = rw (f, ← e) (hd .body-is) in
+    let v : readValues fs s stop (at + 6) ≡ valuesOf s at = rw (f, ← e) in
+    record {
+      class = c;
+      fields = fs;
+      pattern = p;
+      head = rw (g, e) at hd;
+      kids = rw (g, e) at kids;
+      rest = record { pattern = _; fine = rw e at rest };
+      is = rw (v, g, e) at (read-step hd kids rest);
+    }
+
+pub opens : {s : List ℕ} {at end : ℕ} → Passed s at end → at < end → Node s at end
+opens p h = opened (p .fine) h
+
+pub in-order : {s : List ℕ} {at end : ℕ} → Passed s at end → at ≤ end
+in-order {s} {at} {end} p = go (p .fine)
+  where
+    go : {q : Pattern} → Fine s at end q → at ≤ end
+    go (ends z m) = omega arith
+    go (goes hd a kids rest) = omega (arith, hd .low, hd .mid, hd .high)
+
+-- BY KIND: the fields of the row of a kind say where the children start, and what the fields are
+module _ {s : List ℕ} {at end : ℕ} (n : Node s at end) where
+  fields-of : {j : ℕ} → kindOf s at ≡ j → n .fields ≡ rowFields (rowIn j rows)
+  unfolding rowFields
+  fields-of e = sym (ap rowFields (n .head .is)) ∙ ap (λ (i : ℕ). rowFields (rowIn i rows)) e
+
+  pub head-of : {j : ℕ} → kindOf s at ≡ j → Head s at end (n .class) (rowFields (rowIn j rows)) (n .pattern) (bodyOf s at) (stopOf s at)
+  head-of e = rw (fields-of e) at (n .head)
+
+  pub children-of : {j : ℕ} → kindOf s at ≡ j → bodyOf s at ≡ skipAll (rowFields (rowIn j rows)) s (stopOf s at) (at + 6)
+  children-of e = children-start (head-of e)
+
+  pub values-of : {j : ℕ} → kindOf s at ≡ j → valuesOf s at ≡ skipValues (rowFields (rowIn j rows)) s (stopOf s at) (at + 6)
+  unfolding valuesOf rowFields
+  values-of e = rw (← fields-of e, n .head .is) (fields-read (n .head))

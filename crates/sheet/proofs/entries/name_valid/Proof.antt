@@ -1,0 +1,13 @@
+-- `sheet::entries::name_valid`: what was read is the number. Assumes nothing.
+use borrow.Author.Needs.{needs}
+use Rattle.sheet.proofs.entries.name_valid.Statement.{statement}
+use Rattle.sheet.proofs.entries.name_valid.Tie as tie
+
+read-requires : tie.Need-read-requires
+read-requires c κs = search needs
+
+returns : tie.Need-returns
+returns c = rw (c .read .ensures .0)
+
+pub name-valid-spec : {M : Type 1} → statement M
+name-valid-spec = tie.close (tie.spec read-requires returns)

@@ -1,0 +1,44 @@
+-- `sheet::entries::past_fields`: the fields that are left decide. Assumes nothing.
+use mathlib.Core.Path.{refl}
+use native.Mathlib.Omega.{arith}
+use borrow.Author.Needs.{needs}
+use Rattle.sheet.proofs.Digits.{Passing, all-passed, not-passed, passed}
+use Rattle.sheet.proofs.entries.past_fields.Statement.{statement}
+use Rattle.sheet.proofs.entries.past_fields.Tie as tie
+
+abbrev Inv-loop : tie.InvT-loop
+Inv-loop s at stop code place₀ left₀ place left = Passing s at stop code place left
+
+abbrev μ-loop : tie.MeasureT-loop
+μ-loop s at stop code place₀ left₀ place left = left
+
+loop-holds : tie.Need-loop-holds Inv-loop μ-loop
+loop-holds c = record { low = omega arith; high = omega arith; small = omega arith; same = refl }
+
+past-field-requires : tie.Need-past-field-requires Inv-loop μ-loop
+past-field-requires c κs = search needs
+
+returns : tie.Need-returns Inv-loop μ-loop
+returns c = (search (not-passed, needs), search needs)
+
+loop-less : tie.Need-loop-less Inv-loop μ-loop
+loop-less c = search needs
+
+loop-again : tie.Need-loop-again Inv-loop μ-loop
+loop-again c = search (passed, needs)
+
+returns-2 : tie.Need-returns-2 Inv-loop μ-loop
+returns-2 c = (search (all-passed, needs), search needs)
+
+pub past-fields-spec : {M : Type 1} → statement M
+past-fields-spec =
+    tie.close
+    (tie.spec
+    Inv-loop
+    μ-loop
+    loop-holds
+    past-field-requires
+    returns
+    loop-less
+    loop-again
+    returns-2)

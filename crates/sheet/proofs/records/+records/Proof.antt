@@ -1,0 +1,164 @@
+-- `sheet::records::records`: each record decides as `checkRecords` has it, and what is left of the bytes falls. Assumes nothing.
+use mathlib.Core.Path.{refl}
+use Prim.Native.Nat.{ℕ, _-_, _<_}
+use native.Mathlib.Omega.{arith}
+use borrow.Author.Needs.{needs}
+use borrow.Author.Tests.{not-true, not-false}
+use borrow.Fn.Kinds.{In}
+use borrow.Fn.PlainCycle.{Measures, is, falls, and}
+use Rattle.fields.proofs.read.Reads as read
+use Rattle.sheet.proofs.Checks.{Going, over-good, over-bad, not-there, there, not-valid, Entered, enters, children-good, children-bad, none-good, none-bad}
+use Rattle.sheet.proofs.Heads.{class-small, Begun}
+use Rattle.sheet.proofs.entries.past_fields.Reads as past-fields
+use Rattle.sheet.proofs.records.after.Reads as after
+use Rattle.sheet.proofs.records.kind_at.Reads as kind-at
+use Rattle.sheet.proofs.records.may_end.Reads as may-end
+use Rattle.sheet.proofs.tables.row_of.Reads as row-of
+use Rattle.sheet.proofs.records.records.Reads as records
+use Rattle.sheet.proofs.records.records.Kinds as kinds
+use Rattle.sheet.proofs.records.+records.Lts-records as lts
+use Rattle.sheet.proofs.records.+records.{statement}
+use Rattle.sheet.proofs.records.+records.Tie.{close}
+
+-- the bytes left, `end - at`
+abbrev μ : Measures 1 kinds.ps ℕ
+μ κs a = a .1 .1 .0 - a .1 .0
+
+abbrev At : ℕ → In 1 kinds.ps
+At t = and 1 kinds.ps (is 1 kinds.ps μ t) records.Pre
+
+abbrev Calls : ℕ → lts.Claims
+Calls t = (
+  kind-at.Asked,
+  kind-at.Learnt,
+  row-of.Asked,
+  row-of.Learnt,
+  after.Asked,
+  after.Learnt,
+  read.Asked,
+  read.Learnt,
+  past-fields.Asked,
+  past-fields.Learnt,
+  and 1 kinds.ps (falls 1 kinds.ps _<_ μ t) records.Pre,
+  records.Post,
+  may-end.Asked,
+  may-end.Learnt,
+)
+
+abbrev Inv-loop : lts.InvT-loop
+Inv-loop s at end pattern place₀ left₀ place left = Going s at end pattern place left
+
+abbrev μ-loop : lts.MeasureT-loop
+μ-loop s at end pattern place₀ left₀ place left = end - place
+
+module _ (t : ℕ) where
+  -- a record that may stand there, and one whose fields are valid
+  started : (c : lts.Else1 (Calls t) (At t) records.Post Inv-loop μ-loop)
+      → let l = c .before .before .before .before .before in Begun (l .before .before .args .s .now) (l .loop .place) (l .before .before .args .end) (l .loop .left) (c .before .before .row-of .result) (c .before .after .result)
+  started c =
+      there (c .before .before .before .before .before .loop .inv) (c .before .before .before .before .loop-test .taken) (c .before .before .before .kind-at .ensures) (c .before .before .row-of .ensures) (c .before .after .ensures) (c .if1 .left)
+
+  entered : (c : lts.Else2 (Calls t) (At t) records.Post Inv-loop μ-loop)
+      → let l = c .before .before .before .before .before .before .before .before in
+      let a = l .before .before .args in
+      Entered (a .s .now) (a .at) (a .end) (a .pattern) (l .loop .place) (c .before .before .before .before .before .row-of .result) (c .before .before .before .before .after .result) (c .before .before .read .result) (c .before .past-fields .result)
+  entered c =
+      let p = c .before .past-fields .ensures in
+      enters (c .before .before .before .before .before .before .before .before .loop .inv) (c .before .before .before .before .before .before .before .loop-test .taken) (started (c .before .before .before)) (c .before .before .read .ensures .0) (p .0) (c .if2 .left) (p .1 .1 (c .if2 .left)) (p .1 .0)
+
+  loop-holds : lts.Need-loop-holds (Calls t) (At t) records.Post Inv-loop μ-loop
+  loop-holds c = record { low = omega arith; high = search needs; ok = search needs; same = refl }
+
+  kind-at-requires : lts.Need-kind-at-requires (Calls t) (At t) records.Post Inv-loop μ-loop
+  kind-at-requires c κs = search needs
+
+  row-of-requires : lts.Need-row-of-requires (Calls t) (At t) records.Post Inv-loop μ-loop
+  row-of-requires c κs = search needs
+
+  after-requires : lts.Need-after-requires (Calls t) (At t) records.Post Inv-loop μ-loop
+  after-requires c κs = search (class-small, needs)
+
+  returns : lts.Need-returns (Calls t) (At t) records.Post Inv-loop μ-loop
+  returns c = search (not-there, needs)
+
+  read-requires : lts.Need-read-requires (Calls t) (At t) records.Post Inv-loop μ-loop
+  read-requires c κs = let d = started c in omega arith
+
+  add-stop : lts.Need-add-stop (Calls t) (At t) records.Post Inv-loop μ-loop
+  add-stop c = let d = started (c .before) in omega (arith, c .read .ensures .0)
+
+  add-past-fields : lts.Need-add-past-fields (Calls t) (At t) records.Post Inv-loop μ-loop
+  add-past-fields c = search needs
+
+  past-fields-requires : lts.Need-past-fields-requires (Calls t) (At t) records.Post Inv-loop μ-loop
+  past-fields-requires c κs = let d = started (c .before) in (omega arith, (omega (arith, c .read .ensures .0), (omega (arith, c .read .ensures .0), omega arith)))
+
+  returns-2 : lts.Need-returns-2 (Calls t) (At t) records.Post Inv-loop μ-loop
+  returns-2 c = not-valid (c .before .before .before .before .before .before .before .before .loop .inv) (c .before .before .before .before .before .before .before .loop-test .taken) (started (c .before .before .before)) (c .before .before .read .ensures .0) (c .before .past-fields .ensures .0) (c .if2 .taken)
+
+  records-requires : lts.Need-records-requires (Calls t) (At t) records.Post Inv-loop μ-loop
+  records-requires c κs = let d = entered (c .before) in (omega arith, (d .stop, (omega arith, d .children)))
+
+  enum-known-inner : lts.Need-enum-known-inner (Calls t) (At t) records.Post Inv-loop μ-loop
+  enum-known-inner c = search needs
+
+  returns-3 : lts.Need-returns-3 (Calls t) (At t) records.Post Inv-loop μ-loop
+  returns-3 c = children-bad (entered (c .before .before .before .before .before)) (c .before .before .before .records .ensures) (c .before .inner .given .1)
+
+  enum-told : lts.Need-enum-told (Calls t) (At t) records.Post Inv-loop μ-loop
+  enum-told c = search needs
+
+  may-end-requires : lts.Need-may-end-requires (Calls t) (At t) records.Post Inv-loop μ-loop
+  may-end-requires c κs = entered (c .before) .children
+
+  returns-4 : lts.Need-returns-4 (Calls t) (At t) records.Post Inv-loop μ-loop
+  returns-4 c = none-bad (entered (c .before .before .before)) (c .before .before .if3 .left) (c .before .may-end .ensures) (not-true _ (c .if4 .taken))
+
+  loop-less : lts.Need-loop-less (Calls t) (At t) records.Post Inv-loop μ-loop
+  loop-less c = let d = entered (c .before .before .before .before) in omega arith
+
+  loop-again : lts.Need-loop-again (Calls t) (At t) records.Post Inv-loop μ-loop
+  loop-again c = children-good (entered (c .before .before .before .before)) (c .before .before .records .ensures) (c .enum-told .given .1)
+
+  loop-less-2 : lts.Need-loop-less-2 (Calls t) (At t) records.Post Inv-loop μ-loop
+  loop-less-2 c = let d = entered (c .before .before .before) in omega arith
+
+  loop-again-2 : lts.Need-loop-again-2 (Calls t) (At t) records.Post Inv-loop μ-loop
+  loop-again-2 c = none-good (entered (c .before .before .before)) (c .before .before .if3 .left) (c .before .may-end .ensures) (not-false _ (c .if4 .left))
+
+  may-end-requires-2 : lts.Need-may-end-requires-2 (Calls t) (At t) records.Post Inv-loop μ-loop
+  may-end-requires-2 c κs = search needs
+
+  returns-5 : lts.Need-returns-5 (Calls t) (At t) records.Post Inv-loop μ-loop
+  returns-5 c = search (over-good, needs)
+
+  returns-6 : lts.Need-returns-6 (Calls t) (At t) records.Post Inv-loop μ-loop
+  returns-6 c = search (over-bad, needs)
+
+pub +records-spec : {M : Type 1} → statement M
++records-spec =
+    close μ λ t.
+    lts.spec (Calls t) (At t) records.Post Inv-loop μ-loop
+    (loop-holds t)
+    (kind-at-requires t)
+    (row-of-requires t)
+    (after-requires t)
+    (returns t)
+    (read-requires t)
+    (add-stop t)
+    (add-past-fields t)
+    (past-fields-requires t)
+    (returns-2 t)
+    (records-requires t)
+    (enum-known-inner t)
+    (returns-3 t)
+    (enum-told t)
+    (may-end-requires t)
+    (returns-4 t)
+    (loop-less t)
+    (loop-again t)
+    (loop-less-2 t)
+    (loop-again-2 t)
+    (may-end-requires-2 t)
+    (returns-5 t)
+    (returns-6 t)

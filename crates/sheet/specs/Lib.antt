@@ -1,0 +1,4 @@
+pub mod Codes
+pub mod Forms
+pub mod Passed
+pub mod Limits

@@ -1,0 +1,39 @@
+-- What stands at a place of a sheet that passed the check of its form. Assumes nothing: these are definitions.
+use Prim.Native.Nat.{ℕ, _+_, _<_, _≤_}
+use mathlib.Core.Path.{_≡_}
+use mathlib.Core.List.{List}
+use lib.ListN.{length}
+use Rattle.definitions.specs.Fields.{le}
+use Rattle.definitions.specs.Grammar.{Pattern, rows}
+use Rattle.definitions.specs.Records.{Value, Trees, rowIn, rowFields, pastAll, readValues, readRecords}
+use Rattle.definitions.proofs.Sheets.Passed.{Fine}
+
+-- the records from `at` to `end` passed
+pub record Passed (s : List ℕ) (at end : ℕ) : Type 0 where
+  pub pattern : Pattern
+  pub fine : Fine s at end pattern
+
+-- the record at a place: its kind, where it stops, where its children start, its fields, and its children
+abbrev pub kindOf : List ℕ → ℕ → ℕ
+kindOf s at = le 2 s (at + 4)
+
+abbrev pub stopOf : List ℕ → ℕ → ℕ
+stopOf s at = at + le 4 s at
+
+unfoldable pub bodyOf : List ℕ → ℕ → ℕ
+bodyOf s at = pastAll (rowFields (rowIn (kindOf s at) rows)) s (stopOf s at) (at + 6)
+
+unfoldable pub valuesOf : List ℕ → ℕ → List Value
+valuesOf s at = readValues (rowFields (rowIn (kindOf s at) rows)) s (stopOf s at) (at + 6)
+
+abbrev pub childrenOf : List ℕ → ℕ → Trees
+childrenOf s at = readRecords s (bodyOf s at) (stopOf s at)
+
+-- a record that passed stands at `at`
+pub record Standing (s : List ℕ) (at stop kind : ℕ) : Type 0 where
+  pub end : ℕ
+  pub passed : Passed s at end
+  pub starts : at < end
+  pub inside : end ≤ length s
+  pub stop-is : stop ≡ stopOf s at
+  pub kind-is : kind ≡ kindOf s at

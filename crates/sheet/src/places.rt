@@ -1,0 +1,50 @@
+// Where things stand in a record that passed the check of its form: no validity is tested again.
+ghost use mathlib.Core.Path.{_≡_};
+ghost use Prim.Native.Nat.{_+_, _*_, _≤_};
+ghost use lib.ListN.{length};
+ghost use Rattle.definitions.specs.Fields.{le};
+ghost use Rattle.definitions.specs.Records.{readRecords};
+ghost use Rattle.definitions.specs.ContractSheet.{countTrees};
+ghost use Rattle.sheet.specs.Passed.{Passed, Standing, bodyOf};
+use crate::tables::row_of;
+use fields::read;
+
+// The place after a count and so many entries of a size.
+fn past_list(s: &[u8], at: usize, size: usize) -> usize
+    requires { ⌜ (at + 2 + size * le 2 (now s) at ≤ length (now s)) × (size ≤ 6) ⌝ }
+    ensures { λ r. ⌜ r ≡ at + 2 + size * le 2 (now (s .entry)) at ⌝ }
+{
+    at + 2 + size * read(s, at, 2)
+}
+
+// Where the children of a record start: at its stop, if its row has none. The others have one of five lists of fields.
+pub fn body_of(s: &[u8], at: usize, stop: usize, kind: usize) -> usize
+    requires { ⌜ Standing (now s) at stop kind ⌝ }
+    ensures { λ r. ⌜ r ≡ bodyOf (now (s .entry)) at ⌝ }
+{
+    let row = row_of(kind);
+    if row / 0x1000000 == 0 {
+        return stop;
+    }
+    match row / 16 % 0x100000 {
+        0x1 => at + 8, // a name or an id
+        0x7 => at + 8, // an operator
+        0x9621 => past_list(s, at + 12, 4), // function: n, return type, is_pub, parameters
+        0xba311 => past_list(s, past_list(s, at + 14, 6), 4), // function: id, n, return type, parameters, locals
+        _ => at + 6, // none
+    }
+}
+
+// How many records stand from `at` to `end`.
+pub fn count(s: &[u8], at: usize, end: usize) -> usize
+    requires { ⌜ Passed (now s) at end × (end ≤ length (now s)) ⌝ }
+    ensures { λ r. ⌜ r ≡ countTrees (readRecords (now (s .entry)) at end) ⌝ }
+{
+    let mut place = at;
+    let mut n: usize = 0;
+    while place < end {
+        place += read(s, place, 4);
+        n += 1;
+    }
+    n
+}

@@ -1,0 +1,117 @@
+// Refusals 3 and 40: the lowest place at which a record should start, or surplus begins, and none starts.
+ghost use mathlib.Core.Path.{_≡_};
+ghost use mathlib.Core.Bool.{true};
+ghost use Prim.Native.Nat.{_≤_};
+ghost use lib.ListN.{length};
+ghost use Rattle.definitions.specs.Records.{mayEnd, checkRecords};
+ghost use Rattle.sheet.specs.Codes.{patternOf, coded, Leaves, kindAt};
+ghost use Rattle.sheet.specs.Forms.{formOf};
+use crate::Form;
+use crate::entries::past_fields;
+use crate::tables::row_of;
+use fields::read;
+
+// No pattern: what is left of one that does not allow a record.
+const REFUSED: usize = 0xff;
+
+// How often a child may come: one, or any number. (2: perhaps one.)
+const ONE: usize = 1;
+
+const MANY: usize = 3;
+
+// The kind of the record at a place, if its length fits what is left of its parent; else 0, which is no kind.
+fn kind_at(s: &[u8], at: usize, end: usize) -> usize
+    requires { ⌜ (at ≤ end) × (end ≤ length (now s)) ⌝ }
+    ensures { λ r. ⌜ r ≡ kindAt (now (s .entry)) at end ⌝ }
+{
+    let room = end - at;
+    if room < 6 {
+        return 0;
+    }
+    let length = read(s, at, 4);
+    if length < 6 {
+        return 0;
+    }
+    if room < length {
+        return 0;
+    }
+    read(s, at + 4, 2)
+}
+
+// What a pattern leaves after a record of a class, or REFUSED.
+fn after(pattern: usize, class: usize) -> usize
+    requires { ⌜ (coded pattern ≡ true) × (class ≤ 14) ⌝ }
+    ensures { λ r. ⌜ Leaves pattern class r ⌝ }
+{
+    let mut left = pattern;
+    while left != 0 {
+        let child = left % 256;
+        let often = child / 16;
+        if child % 16 == class {
+            if often == MANY {
+                return left;
+            }
+            return left / 256;
+        }
+        if often == ONE {
+            return REFUSED;
+        }
+        left = left / 256;
+    }
+    REFUSED
+}
+
+// Whether a pattern allows the end.
+fn may_end(pattern: usize) -> bool
+    requires { ⌜ coded pattern ≡ true ⌝ }
+    ensures { λ r. ⌜ r ≡ mayEnd (patternOf pattern) ⌝ }
+{
+    let mut left = pattern;
+    while left != 0 {
+        if left % 256 / 16 == ONE {
+            return false;
+        }
+        left = left / 256;
+    }
+    true
+}
+
+// The records from `at` to `end` follow a pattern, each with its children: first those, then what stands after it. So the first
+// fault is the lowest. A record takes 6 bytes or more, so the bytes left fall with each call, to any depth.
+pub(crate) fn records(s: &[u8], at: usize, end: usize, pattern: usize) -> Form
+    requires { ⌜ (at ≤ end) × ((end ≤ length (now s)) × (coded pattern ≡ true)) ⌝ }
+    ensures { λ r. ⌜ formOf r ≡ checkRecords (now (s .entry)) at end (patternOf pattern) ⌝ }
+{
+    let mut place = at;
+    let mut left = pattern;
+    while place < end {
+        let row = row_of(kind_at(s, place, end));
+        let class = row % 16;
+        let fixed = row / 16 % 0x100000;
+        let children = row / 0x1000000;
+        let next = after(left, class);
+        if next == REFUSED {
+            return Form::Bad(place);
+        }
+        let stop = place + read(s, place, 4);
+        let body = past_fields(s, place + 6, stop, fixed);
+        if body == 0 {
+            return Form::Bad(place);
+        }
+        if body < stop {
+            let inner = records(s, body, stop, children);
+            if let Form::Bad(fault) = inner {
+                return Form::Bad(fault);
+            }
+        } else if !may_end(children) {
+            return Form::Bad(body);
+        }
+        place = stop;
+        left = next;
+    }
+    if may_end(left) {
+        Form::Good
+    } else {
+        Form::Bad(place)
+    }
+}

@@ -1,0 +1,249 @@
+//! Asks subject and oracle the same, and reports.
+
+use std::collections::BTreeMap;
+use std::time::Instant;
+
+use crate::generate::{self, exhaust, Case};
+use crate::oracle::{lower_answer, verify_answer, Answer};
+use crate::proof_sheets::hex;
+use crate::sheet::{kind, SHEET_LIMIT};
+use crate::shrink::shrink;
+use crate::subject::Subject;
+
+/// Which operation is compared.
+#[derive(Debug, Clone, Copy, PartialEq, Eq)]
+pub enum Task {
+    Verify,
+    Lower,
+}
+
+impl Task {
+    pub fn root(self) -> u16 {
+        match self {
+            Task::Verify => kind::PROGRAM,
+            Task::Lower => kind::CONTRACT,
+        }
+    }
+
+    pub fn fixed_cases(self) -> Vec<Case> {
+        match self {
+            Task::Verify => generate::fixed_verify_cases(),
+            Task::Lower => generate::fixed_lower_cases(),
+        }
+    }
+
+    pub fn case(self, seed: u64, index: u64) -> Case {
+        match self {
+            Task::Verify => generate::verify_case(seed, index),
+            Task::Lower => generate::lower_case(seed, index),
+        }
+    }
+
+    /// The numbers that the cases must bring about.
+    pub fn numbers(self) -> Vec<u16> {
+        match self {
+            Task::Verify => [0, 1].into_iter().chain(40..=50).collect(),
+            Task::Lower => {
+                let walk = (10..=20).chain([30, 31]);
+                [0, 1, 3, 4].into_iter().chain(walk).collect()
+            }
+        }
+    }
+
+    pub fn expected(self, case: &Case) -> Answer {
+        match self {
+            Task::Verify => verify_answer(&case.sheet),
+            Task::Lower => lower_answer(&case.sheet, case.room),
+        }
+    }
+}
+
+/// What the oracle expects and what the subject gave instead.
+#[derive(Debug)]
+pub struct Difference {
+    pub expected: String,
+    pub got: String,
+}
+
+/// What the lent output holds before the call: never a zero, so that a byte
+/// left untouched shows.
+const FILL: u8 = 0xA5;
+
+/// Longer than any lent output: comparing with it is faster than a loop.
+static ZEROS: [u8; 1 << 16] = [0; 1 << 16];
+
+/// Compares the answers, and for lowering every byte of the output.
+pub fn compare(subject: &dyn Subject, task: Task, case: &Case) -> Result<Answer, Difference> {
+    let expected = task.expected(case);
+    let mut out = vec![FILL; case.room];
+    let got = match task {
+        Task::Verify => subject.verify(&case.sheet),
+        Task::Lower => subject.lower(&case.sheet, &mut out),
+    };
+    if got != expected {
+        return Err(Difference {
+            expected: expected.to_string(),
+            got: got.to_string(),
+        });
+    }
+    if task == Task::Lower {
+        compare_output(&expected, &out)?;
+    }
+    Ok(expected)
+}
+
+/// On acceptance the output holds the sheet, then zeros; else zeros alone.
+fn compare_output(expected: &Answer, out: &[u8]) -> Result<(), Difference> {
+    let finished: &[u8] = match expected {
+        Answer::Accepted(finished) => finished,
+        Answer::Refused { .. } => &[],
+    };
+    let (sheet, rest) = out.split_at(finished.len());
+    if sheet == finished && rest == &ZEROS[..rest.len()] {
+        return Ok(());
+    }
+    let wanted = finished.iter().chain(std::iter::repeat(&0));
+    let mut pairs = out.iter().zip(wanted).enumerate();
+    let (place, (got, wanted)) = pairs.find(|(_, (got, wanted))| got != wanted).unwrap();
+    Err(Difference {
+        expected: format!("{expected}, output byte {place} is {wanted}"),
+        got: format!("the same answer, output byte {place} is {got}"),
+    })
+}
+
+/// A run under way.
+pub struct Run<'a> {
+    subject: &'a dyn Subject,
+    task: Task,
+    /// How often each number was answered.
+    pub histogram: BTreeMap<u16, u64>,
+    started: Instant,
+    done: u64,
+}
+
+const PROGRESS: u64 = 100_000;
+
+impl<'a> Run<'a> {
+    pub fn new(subject: &'a dyn Subject, task: Task) -> Self {
+        Run {
+            subject,
+            task,
+            histogram: BTreeMap::new(),
+            started: Instant::now(),
+            done: 0,
+        }
+    }
+
+    /// The fixed cases, then `count` random ones; false after a difference.
+    pub fn random(&mut self, seed: u64, count: u64) -> bool {
+        let task = self.task;
+        let fixed = task.fixed_cases();
+        fixed.iter().all(|case| self.ask(case))
+            && (0..count).all(|index| self.ask(&task.case(seed, index)))
+    }
+
+    /// All short sheets and all small damages of a few; false after a
+    /// difference.
+    pub fn exhaust(&mut self) -> bool {
+        let root = self.task.root();
+        exhaust::each(root, &mut |sheet| self.ask(&Case::of(sheet.to_vec())))
+    }
+
+    /// Compares one case; reports a difference and gives false.
+    fn ask(&mut self, case: &Case) -> bool {
+        match compare(self.subject, self.task, case) {
+            Ok(answer) => *self.histogram.entry(answer.number()).or_default() += 1,
+            Err(_) => {
+                self.report(case);
+                return false;
+            }
+        }
+        self.done += 1;
+        if self.done.is_multiple_of(PROGRESS) {
+            let seconds = self.started.elapsed().as_secs_f64();
+            eprintln!("{} cases in {seconds:.1} s", self.done);
+        }
+        true
+    }
+
+    fn report(&self, case: &Case) {
+        eprintln!("a difference after {} cases, shrinking", self.done);
+        let differs = &mut |case: &Case| compare(self.subject, self.task, case).is_err();
+        let small = shrink(case.clone(), self.task.root(), differs);
+        let difference = compare(self.subject, self.task, &small).unwrap_err();
+        println!("sheet:    {}", hex(&small.sheet));
+        if self.task == Task::Lower {
+            println!("room:     {}", small.room);
+        }
+        println!("expected: {}", difference.expected);
+        println!("got:      {}", difference.got);
+    }
+
+    /// Whether each number was answered; prints those that were not.
+    pub fn all_numbers(&self) -> bool {
+        let mut missing = self.task.numbers();
+        missing.retain(|number| !self.histogram.contains_key(number));
+        if !missing.is_empty() {
+            println!("never answered: {missing:?}");
+        }
+        missing.is_empty()
+    }
+
+    /// One line for each number, 0 for acceptance.
+    pub fn print_histogram(&self) {
+        let seconds = self.started.elapsed().as_secs_f64();
+        for (number, times) in &self.histogram {
+            println!("{number:>5} {times:>10}");
+        }
+        let rate = self.done as f64 / seconds.max(0.001);
+        println!("{} cases in {seconds:.1} s, {rate:.0} a second", self.done);
+    }
+}
+
+/// How many random cases a sample is drawn from.
+const CANDIDATES: u64 = 20_000;
+/// Longer sheets are sampled only for numbers that have no shorter ones.
+const SHORT: usize = 300;
+
+/// Cases and their answers: about `count`, the same share of each number,
+/// most of them short.
+pub fn sample(task: Task, seed: u64, count: usize) -> Vec<(Vec<u8>, Answer)> {
+    let mut by_number: BTreeMap<u16, BTreeMap<String, (Vec<u8>, Answer)>> = BTreeMap::new();
+    let random = (0..CANDIDATES).map(|index| task.case(seed, index));
+    for case in task.fixed_cases().into_iter().chain(random) {
+        let case = Case::of(case.sheet);
+        let answer = task.expected(&case);
+        // One sheet, the shortest, for each answer and length.
+        let key = format!("{} {answer}", case.sheet.len());
+        let bucket = by_number.entry(answer.number()).or_default();
+        bucket.entry(key).or_insert((case.sheet, answer));
+    }
+    let share = count.div_ceil(by_number.len());
+    let buckets = by_number.into_values();
+    buckets
+        .flat_map(|bucket| spread(bucket.into_values().collect(), share))
+        .collect()
+}
+
+/// Some of the pairs, from the shortest on, denser among the short ones.
+fn spread(mut pairs: Vec<(Vec<u8>, Answer)>, share: usize) -> Vec<(Vec<u8>, Answer)> {
+    pairs.sort_by_key(|(sheet, answer)| (sheet.len(), answer.to_string()));
+    let short = pairs.iter().filter(|pair| pair.0.len() <= SHORT).count();
+    pairs.truncate(short.max(1));
+    let total = pairs.len();
+    let mut chosen: Vec<usize> = (0..share)
+        .map(|i| total * i * i / (share * share))
+        .collect();
+    chosen.dedup();
+    chosen.into_iter().map(|i| pairs[i].clone()).collect()
+}
+
+/// The sheet and the room of a random case, to look at one by its number.
+pub fn describe(task: Task, seed: u64, index: u64) -> String {
+    let case = task.case(seed, index);
+    let room = match case.room {
+        SHEET_LIMIT => String::new(),
+        room => format!(" (output of {room} bytes)"),
+    };
+    format!("{}{room} -> {}", hex(&case.sheet), task.expected(&case))
+}

@@ -1,0 +1,31 @@
+//! What is compared with the oracle.
+
+use crate::oracle::{lower_answer, verify_answer, Answer};
+
+/// An implementation of lowering and verifying.
+pub trait Subject {
+    /// The answer to a program sheet.
+    fn verify(&self, sheet: &[u8]) -> Answer;
+
+    /// The answer to a contract sheet. `out` is the lent output; on acceptance
+    /// the answer's bytes are those of `out` up to the answered length.
+    fn lower(&self, sheet: &[u8], out: &mut [u8]) -> Answer;
+}
+
+/// The oracle itself, so that the driver runs without a subject.
+pub struct SelfSubject;
+
+impl Subject for SelfSubject {
+    fn verify(&self, sheet: &[u8]) -> Answer {
+        verify_answer(sheet)
+    }
+
+    fn lower(&self, sheet: &[u8], out: &mut [u8]) -> Answer {
+        let answer = lower_answer(sheet, out.len());
+        out.fill(0);
+        if let Answer::Accepted(finished) = &answer {
+            out[..finished.len()].copy_from_slice(finished);
+        }
+        answer
+    }
+}

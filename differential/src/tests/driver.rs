@@ -1,0 +1,74 @@
+//! The driver finds and shrinks the differences of faulty subjects.
+
+use crate::driver::{compare, sample, Run, Task};
+use crate::generate::Case;
+use crate::oracle::{lower_answer, verify_answer, Answer};
+use crate::shrink::shrink;
+use crate::subject::{SelfSubject, Subject};
+
+/// Verifies every program that it would refuse with 46, and leaves a byte of
+/// the output when it refuses with 11.
+struct Faulty;
+
+impl Subject for Faulty {
+    fn verify(&self, sheet: &[u8]) -> Answer {
+        match verify_answer(sheet) {
+            Answer::Refused { number: 46, .. } => Answer::Accepted(vec![]),
+            answer => answer,
+        }
+    }
+
+    fn lower(&self, sheet: &[u8], out: &mut [u8]) -> Answer {
+        let answer = SelfSubject.lower(sheet, out);
+        if answer.number() == 11 {
+            if let Some(last) = out.last_mut() {
+                *last = 1;
+            }
+        }
+        answer
+    }
+}
+
+/// The first random case that differs, shrunk.
+fn first_difference(task: Task) -> Case {
+    let differs = |case: &Case| compare(&Faulty, task, case).is_err();
+    let mut cases = (0..).map(|index| task.case(3, index));
+    let found = cases.find(|case| differs(case)).unwrap();
+    shrink(found, task.root(), &mut |case| differs(case))
+}
+
+#[test]
+fn a_wrong_answer_is_found_and_shrunk() {
+    let small = first_difference(Task::Verify);
+    assert_eq!(verify_answer(&small.sheet).number(), 46);
+    assert!(small.sheet.len() <= 80, "{} bytes", small.sheet.len());
+}
+
+#[test]
+fn a_wrong_output_is_found_and_shrunk() {
+    let small = first_difference(Task::Lower);
+    assert_eq!(lower_answer(&small.sheet, small.room).number(), 11);
+    assert!(small.sheet.len() <= 60, "{} bytes", small.sheet.len());
+}
+
+#[test]
+fn every_number_occurs() {
+    for (task, count) in [(Task::Lower, 3_000), (Task::Verify, 3_000)] {
+        let mut run = Run::new(&SelfSubject, task);
+        assert!(run.random(1, count));
+        let numbers: Vec<u16> = run.histogram.keys().copied().collect();
+        assert_eq!(numbers, task.numbers());
+    }
+}
+
+#[test]
+fn a_sample_has_every_number() {
+    for (task, numbers) in [(Task::Lower, 17), (Task::Verify, 13)] {
+        let mut seen: Vec<u16> = sample(task, 1, 60)
+            .iter()
+            .map(|(_, answer)| answer.number())
+            .collect();
+        seen.dedup();
+        assert_eq!(seen.len(), numbers);
+    }
+}
