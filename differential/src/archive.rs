@@ -8,6 +8,7 @@ const NUMBERS: usize = 6;
 
 extern "C" {
     fn malovuneth_verify(sheet: *const u8, length: usize, out: *mut [usize; NUMBERS]);
+    fn malovuneth_contract_check(sheet: *const u8, length: usize, out: *mut [usize; NUMBERS]);
     fn malovuneth_contract_form(sheet: *const u8, length: usize, out: *mut [usize; NUMBERS]);
 }
 
@@ -16,6 +17,14 @@ pub fn verify(sheet: &[u8]) -> [usize; NUMBERS] {
     let mut out = [usize::MAX; NUMBERS];
     // SAFETY: the sheet and the numbers are lent for the call alone.
     unsafe { malovuneth_verify(sheet.as_ptr(), sheet.len(), &mut out) };
+    out
+}
+
+/// The numbers of the answer to a contract sheet's length, form and limits.
+pub fn contract_check(sheet: &[u8]) -> [usize; NUMBERS] {
+    let mut out = [usize::MAX; NUMBERS];
+    // SAFETY: as above.
+    unsafe { malovuneth_contract_check(sheet.as_ptr(), sheet.len(), &mut out) };
     out
 }
 
@@ -28,12 +37,16 @@ pub fn contract_form(sheet: &[u8]) -> [usize; NUMBERS] {
 }
 
 /// The archive, where an operation is in it. Lowering is not: there the oracle
-/// stands in, so that only verifying is compared.
+/// stands in, so that verifying and the check before lowering are compared.
 pub struct Archive;
 
 impl Subject for Archive {
     fn verify(&self, sheet: &[u8]) -> Answer {
         answer(verify(sheet))
+    }
+
+    fn check(&self, sheet: &[u8]) -> Answer {
+        answer(contract_check(sheet))
     }
 
     fn lower(&self, sheet: &[u8], out: &mut [u8]) -> Answer {
@@ -44,7 +57,7 @@ impl Subject for Archive {
 /// How many details a refusal of a number has, by document 01.
 fn details(number: usize) -> usize {
     match number {
-        3 | 40 => 1,
+        3 | 4 | 40 => 1,
         41..=44 | 48..=50 => 2,
         46 => 4,
         45 | 47 => 5,

@@ -4,7 +4,7 @@ use std::collections::BTreeMap;
 use std::time::Instant;
 
 use crate::generate::{self, exhaust, Case};
-use crate::oracle::{lower_answer, verify_answer, Answer};
+use crate::oracle::{check_answer, lower_answer, verify_answer, Answer};
 use crate::proof_sheets::hex;
 use crate::sheet::{kind, SHEET_LIMIT};
 use crate::shrink::shrink;
@@ -14,6 +14,8 @@ use crate::subject::Subject;
 #[derive(Debug, Clone, Copy, PartialEq, Eq)]
 pub enum Task {
     Verify,
+    /// What lowering asks of a sheet before its walk.
+    Check,
     Lower,
 }
 
@@ -21,21 +23,21 @@ impl Task {
     pub fn root(self) -> u16 {
         match self {
             Task::Verify => kind::PROGRAM,
-            Task::Lower => kind::CONTRACT,
+            Task::Check | Task::Lower => kind::CONTRACT,
         }
     }
 
     pub fn fixed_cases(self) -> Vec<Case> {
         match self {
             Task::Verify => generate::fixed_verify_cases(),
-            Task::Lower => generate::fixed_lower_cases(),
+            Task::Check | Task::Lower => generate::fixed_lower_cases(),
         }
     }
 
     pub fn case(self, seed: u64, index: u64) -> Case {
         match self {
             Task::Verify => generate::verify_case(seed, index),
-            Task::Lower => generate::lower_case(seed, index),
+            Task::Check | Task::Lower => generate::lower_case(seed, index),
         }
     }
 
@@ -43,6 +45,7 @@ impl Task {
     pub fn numbers(self) -> Vec<u16> {
         match self {
             Task::Verify => [0, 1].into_iter().chain(40..=50).collect(),
+            Task::Check => vec![0, 1, 3, 4],
             Task::Lower => {
                 let walk = (10..=20).chain([30, 31]);
                 [0, 1, 3, 4].into_iter().chain(walk).collect()
@@ -53,6 +56,7 @@ impl Task {
     pub fn expected(self, case: &Case) -> Answer {
         match self {
             Task::Verify => verify_answer(&case.sheet),
+            Task::Check => check_answer(&case.sheet),
             Task::Lower => lower_answer(&case.sheet, case.room),
         }
     }
@@ -78,6 +82,7 @@ pub fn compare(subject: &dyn Subject, task: Task, case: &Case) -> Result<Answer,
     let mut out = vec![FILL; case.room];
     let got = match task {
         Task::Verify => subject.verify(&case.sheet),
+        Task::Check => subject.check(&case.sheet),
         Task::Lower => subject.lower(&case.sheet, &mut out),
     };
     if got != expected {

@@ -9,12 +9,13 @@ use differential::generate::Case;
 use differential::proof_sheets;
 
 const USAGE: &str = "\
-differential verify|lower [SEED [COUNT]]         compare the fixed cases and COUNT random ones
-differential exhaust verify|lower                compare all short sheets and all small damages of a few
-differential answer verify|lower                 the oracle's line for a sheet from standard input
-differential sample verify|lower [SEED [COUNT]]  sheets with their answers, some of every number
-differential case verify|lower SEED INDEX        one random case with its answer
-differential rows                                P1 to P12 with their answers";
+differential TASK [SEED [COUNT]]         compare the fixed cases and COUNT random ones
+differential exhaust TASK                compare all short sheets and all small damages of a few
+differential answer TASK                 the oracle's line for a sheet from standard input
+differential sample TASK [SEED [COUNT]]  sheets with their answers, some of every number
+differential case TASK SEED INDEX        one random case with its answer
+differential rows                        P1 to P12 with their answers
+TASK is verify, lower, or check: what lowering asks of a sheet before its walk";
 
 /// What is compared with the oracle.
 const SUBJECT: Archive = Archive;
@@ -71,6 +72,7 @@ fn command(words: &[&str]) -> Option<ExitCode> {
 fn task(word: &str) -> Option<Task> {
     match word {
         "verify" => Some(Task::Verify),
+        "check" => Some(Task::Check),
         "lower" => Some(Task::Lower),
         _ => None,
     }

@@ -11,6 +11,7 @@ use crate::ir::verify::{self, VerifyError};
 use crate::ir::{IrFunction, IrProgram, IrType};
 use crate::names;
 use crate::sema::SemanticAnalyzer;
+use crate::sheet::parse::Tree;
 use crate::sheet::{contract_read, kind, limits, parse, program_read, program_write, SHEET_LIMIT};
 
 /// The answer to a sheet.
@@ -61,18 +62,32 @@ fn refused_alone(number: u16) -> Answer {
     refused::<u32>(number, [])
 }
 
-/// The answer to a contract sheet, with an output of `room` bytes.
-pub fn lower_answer(sheet: &[u8], room: usize) -> Answer {
+/// The records of a contract sheet, unless 1, 3 or 4 comes before the walk.
+fn checked(sheet: &[u8]) -> Result<Tree<'_>, Answer> {
     if sheet.len() > SHEET_LIMIT {
-        return refused_alone(1);
+        return Err(refused_alone(1));
     }
     let tree = parse::parse(sheet, kind::CONTRACT);
     if let Some(place) = tree.malformed {
-        return refused(3, [place as u32]);
+        return Err(refused(3, [place as u32]));
     }
-    if let Some(place) = limits::exceeded(&tree) {
-        return refused(4, [place as u32]);
+    match limits::exceeded(&tree) {
+        Some(place) => Err(refused(4, [place as u32])),
+        None => Ok(tree),
     }
+}
+
+/// What lowering asks of a contract sheet before its walk.
+pub fn check_answer(sheet: &[u8]) -> Answer {
+    checked(sheet).map_or_else(|answer| answer, |_| Answer::Accepted(Vec::new()))
+}
+
+/// The answer to a contract sheet, with an output of `room` bytes.
+pub fn lower_answer(sheet: &[u8], room: usize) -> Answer {
+    let tree = match checked(sheet) {
+        Ok(tree) => tree,
+        Err(answer) => return answer,
+    };
     match lower_contract(&contract_read::contract(&tree)) {
         Ok(finished) if finished.len() > room.min(SHEET_LIMIT) => refused_alone(31),
         Ok(finished) => Answer::Accepted(finished),

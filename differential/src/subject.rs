@@ -1,11 +1,14 @@
 //! What is compared with the oracle.
 
-use crate::oracle::{lower_answer, verify_answer, Answer};
+use crate::oracle::{check_answer, lower_answer, verify_answer, Answer};
 
 /// An implementation of lowering and verifying.
 pub trait Subject {
     /// The answer to a program sheet.
     fn verify(&self, sheet: &[u8]) -> Answer;
+
+    /// What lowering asks of a contract sheet before its walk.
+    fn check(&self, sheet: &[u8]) -> Answer;
 
     /// The answer to a contract sheet. `out` is the lent output; on acceptance
     /// the answer's bytes are those of `out` up to the answered length.
@@ -18,6 +21,10 @@ pub struct SelfSubject;
 impl Subject for SelfSubject {
     fn verify(&self, sheet: &[u8]) -> Answer {
         verify_answer(sheet)
+    }
+
+    fn check(&self, sheet: &[u8]) -> Answer {
+        check_answer(sheet)
     }
 
     fn lower(&self, sheet: &[u8], out: &mut [u8]) -> Answer {

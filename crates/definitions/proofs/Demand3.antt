@@ -17,7 +17,7 @@ use Rattle.definitions.specs.Verify.{VerifyError, verifyProgram}
 use Rattle.definitions.specs.Records.{Form, Good, Bad, checkRecords}
 use Rattle.definitions.specs.ContractSheet.{readContract, refusal3, refusal4}
 use Rattle.definitions.specs.ProgramSheet.{writeProgram, readProgram, refusal40}
-use Rattle.definitions.specs.Answers.{Refusal, refusal, Answer, refuseForm, lowerRefusal, verifyRefusal, lowerSheet, verifySheet}
+use Rattle.definitions.specs.Answers.{Refusal, refusal, Answer, refuseForm, lowerRefusal, verifyRefusal, checkContract, lowerSheet, verifySheet}
 use Rattle.definitions.specs.Demand3.{NeverLacks, AcceptedOr45to47, Demand3Of, Demand3}
 use Rattle.definitions.proofs.Results.{ok-inj, err-ok, taking, taking-then, taking-check}
 use Rattle.definitions.proofs.Sheets.Passed.{fine}
@@ -55,6 +55,10 @@ accepted-form : (k : ℕ) (f : Form) {B G : Type 0} (r : Result Refusal B) {b : 
 accepted-form k Good r e rest = rest refl e
 accepted-form k (Bad p) r e rest = absurd (err-ok e)
 
+good-form : (k : ℕ) (f : Form) {u : Done} → refuseForm k f ≡ ok u → f ≡ Good
+good-form k Good e = refl
+good-form k (Bad p) e = absurd (err-ok e)
+
 accepted-walk : (r : Lowering IrProgram) {B G : Type 0} (k : IrProgram → Result Refusal B) {b : B} → (mapErr lowerRefusal r >>= k) ≡ ok b → ((p : IrProgram) → r ≡ ok p → k p ≡ ok b → G) → G
 accepted-walk (ok p) k e rest = rest p refl e
 accepted-walk (err x) k e rest = absurd (err-ok e)
@@ -66,9 +70,10 @@ and-true false b e = e
 pub demand3 : Demand3
 unfolding lowerSheet refusal3 checkRecords readContract
 demand3 s h room b e =
-    taking-check (leb (length s) 32768) (refusal 1 []) _ e λ _ e₁.
-    accepted-form 3 (refusal3 s) _ e₁ λ g e₂.
-    accepted-form 4 (refusal4 s) _ e₂ λ g′ e₃.
+    taking-then (checkContract s) _ e λ _ e₁ e₃.
+    taking-check (leb (length s) 32768) (refusal 1 []) _ e₁ λ _ e₂.
+    accepted-form 3 (refusal3 s) _ e₂ λ g q.
+    let g′ : refusal4 s ≡ Good = good-form 4 (refusal4 s) q in
     accepted-walk (lowerContract (readContract s)) _ e₃ λ p l e₄.
     taking-check (leb (length (writeProgram p)) 32768 && leb (length (writeProgram p)) room) (refusal 31 []) _ e₄ λ t e₅.
     let small : Small (readContract s) = sheet-small s _ h (fine _ s 0 (length s) _ g) g′ in

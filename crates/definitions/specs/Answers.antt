@@ -1,6 +1,6 @@
 -- The two operations' answers (document 01, "What each number means"), in its order: 1, 3, 4, the walk, 31; and 1, 40, the walk.
 -- Assumes nothing: these are definitions.
-use Prim.Native.Nat.{ℕ}
+use Prim.Native.Nat.{ℕ, zero, suc}
 use mathlib.Core.List.{List, [], _∷_}
 use mathlib.Core.Option.{Option, none, some}
 use mathlib.Core.Bool.{_&&_}
@@ -26,6 +26,17 @@ refusal k ds = record { number = k; details = ds }
 abbrev pub Answer : Type 0
 Answer = Result Refusal (List ℕ)
 
+-- an answer's numbers: a refusal's own number, then its details; acceptance has none
+abbrev pub numbersOf : {A : Type 0} → Result Refusal A → List ℕ
+numbersOf (ok a) = []
+numbersOf (err r) = r .number ∷ r .details
+
+-- what an output of n places holds: the list from its start, then zeros
+abbrev pub padded : (n : ℕ) → List ℕ → List ℕ
+padded zero l = []
+padded (suc n) [] = 0 ∷ padded n []
+padded (suc n) (x ∷ l) = x ∷ padded n l
+
 -- 3, 4 and 40 have the place
 abbrev pub refuseForm : ℕ → Form → Result Refusal Done
 refuseForm k Good = ok tt
@@ -45,12 +56,17 @@ lowerRefusal LoweringError.PoseidonArguments = refusal 19 []
 lowerRefusal LoweringError.MerkleProof = refusal 20 []
 lowerRefusal (LoweringError.TooManyBlocksOrLocals i) = refusal 30 (i ∷ [])
 
--- lowering a sheet, with an output of `room` bytes lent
-unfoldable pub lowerSheet : List ℕ → (room : ℕ) → Answer
-lowerSheet s room = do
+-- what lowering asks of a sheet before the walk: 1, 3, 4
+abbrev pub checkContract : List ℕ → Result Refusal Done
+checkContract s = do
   check (leb (length s) 32768) (refusal 1 [])
   refuseForm 3 (refusal3 s)
   refuseForm 4 (refusal4 s)
+
+-- lowering a sheet, with an output of `room` bytes lent
+unfoldable pub lowerSheet : List ℕ → (room : ℕ) → Answer
+lowerSheet s room = do
+  checkContract s
   p ← mapErr lowerRefusal (lowerContract (readContract s))
   check (leb (length (writeProgram p)) 32768 && leb (length (writeProgram p)) room) (refusal 31 [])
   ok (writeProgram p)

@@ -1,11 +1,9 @@
--- An answer as one line of text, in ASCII: `OK`, or the number and the details in decimal, separated by single spaces.
+-- An answer's numbers as one line of text, in ASCII: `OK` if there are none, or the numbers in decimal, separated by single spaces.
 -- Assumes nothing: these are definitions.
 use Prim.Native.Nat.{ℕ, zero, suc, _+_, _/_, _%_}
 use mathlib.Core.Bool.{cond}
 use mathlib.Core.List.{List, [], _∷_, _++_}
 use lib.Dec.{ltb}
-use Rattle.definitions.specs.Result.{err, ok}
-use Rattle.definitions.specs.Answers.{Answer}
 
 -- the code of a digit: `0` is 48
 abbrev pub digit : ℕ → ℕ
@@ -25,7 +23,7 @@ unfoldable pub spaced : List ℕ → List ℕ
 spaced [] = 10 ∷ []
 spaced (n ∷ ns) = 32 ∷ (decimal n ++ spaced ns)
 
--- acceptance is `OK` (79, 75)
-unfoldable pub lineOf : Answer → List ℕ
-lineOf (ok written) = 79 ∷ 75 ∷ 10 ∷ []
-lineOf (err r) = decimal (r .number) ++ spaced (r .details)
+-- acceptance, which has no numbers, is `OK` (79, 75)
+unfoldable pub lineOf : List ℕ → List ℕ
+lineOf [] = 79 ∷ 75 ∷ 10 ∷ []
+lineOf (n ∷ ns) = decimal n ++ spaced ns

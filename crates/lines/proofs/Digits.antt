@@ -1,15 +1,13 @@
 -- One digit after another: what stands in front of a place, with the digits behind it. Assumes nothing.
-use mathlib.Core.Path.{_≡_, refl, sym, ap, _∙_}
-use mathlib.Core.Bool.{Bool, true, false, cond}
+use mathlib.Core.Path.{_≡_, refl, sym, ap, _∙_, subst}
 use mathlib.Core.List.{List, [], _∷_, _++_, append-assoc, append-nil}
 use Prim.Native.Nat.{ℕ, zero, suc, _+_, _-_, _/_, _%_, _≤_, _<_}
 use native.Mathlib.Numerals.{add-one}
 use native.Mathlib.Omega.{arith}
 use borrow.Author.Tests.{lt-ltb, le-ltb}
-use lib.Dec.{ltb}
-use lib.ListN.{length, take, set}
-use lib.Seq.{take-suc-set}
-use Rattle.definitions.specs.Lines.{digit, digitsWithin}
+use lib.ListN.{length, take, drop, set}
+use lib.Seq.{take-suc-set, drop-drop, drop-set-lt}
+use Rattle.definitions.specs.Lines.{digitsWithin}
 
 -- no digits are left to write
 pub no-digit : (l : List ℕ) (at most v : ℕ) → most ≡ 0 → take at l ≡ take at l ++ digitsWithin most v
@@ -19,6 +17,15 @@ no-digit l at most v e = rw e (sym (append-nil (take at l)))
 -- a store behind what stands in front of a place
 pub stored : (l : List ℕ) (at d : ℕ) → at < length l → take (at + 1) (set l at d) ≡ take at l ++ (d ∷ [])
 stored l at d h = rw (add-one at) (take-suc-set l at d h)
+
+-- what is left as it was behind a place is so behind a later one, and a store in front of that changes nothing there
+pub later : (l m : List ℕ) (p q : ℕ) → p ≤ q → drop p m ≡ drop p l → drop q m ≡ drop q l
+later l m p q h e =
+    let there : p + (q - p) ≡ q = omega arith in
+    subst (λ (n : ℕ). drop n m ≡ drop n l) there (sym (drop-drop (q - p) p m) ∙ ap (λ (r : List ℕ). drop (q - p) r) e ∙ drop-drop (q - p) p l)
+
+pub left : (l m : List ℕ) (p d : ℕ) → drop p m ≡ drop p l → drop (p + 1) (set m p d) ≡ drop (p + 1) l
+left l m p d e = drop-set-lt (p + 1) m p d (omega arith) ∙ later l m p (p + 1) (omega arith) e
 
 -- a number below ten is one digit
 pub one-digit : (l : List ℕ) (at most v : ℕ) → (most ≡ 0 → ⊥) → v < 10 → at < length l → take (at + 1) (set l at (48 + v)) ≡ take at l ++ digitsWithin most v

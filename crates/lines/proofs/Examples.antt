@@ -1,8 +1,6 @@
--- Lines of some answers, computed. Assumes nothing.
+-- Lines of some numbers, computed. Assumes nothing.
 use mathlib.Core.Path.{_≡_, refl}
 use mathlib.Core.List.{[], _∷_}
-use Rattle.definitions.specs.Result.{err, ok}
-use Rattle.definitions.specs.Answers.{refusal}
 use Rattle.definitions.specs.Lines.{digitsWithin, decimal, spaced, lineOf}
 
 -- `0`, `65535`, `18446744073709551615`
@@ -19,6 +17,6 @@ unfolding digitsWithin
 twenty-digits = refl
 
 -- `40 17` and a line feed
-two-numbers : lineOf (err (refusal 40 (17 ∷ []))) ≡ 52 ∷ 48 ∷ 32 ∷ 49 ∷ 55 ∷ 10 ∷ []
+two-numbers : lineOf (40 ∷ 17 ∷ []) ≡ 52 ∷ 48 ∷ 32 ∷ 49 ∷ 55 ∷ 10 ∷ []
 unfolding digitsWithin spaced lineOf
 two-numbers = refl

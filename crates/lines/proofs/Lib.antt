@@ -1,4 +1,4 @@
-pub mod Digits
-pub mod Spaced
+mod Digits
+mod Spaced
 pub mod Cut
-pub mod Examples
+mod Examples

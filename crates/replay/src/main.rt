@@ -1,6 +1,7 @@
-// Reads sheets from standard input, each behind its length in four bytes, and prints the verifier's answer to each as a line.
+// Reads sheets from standard input, each behind a byte that says what is asked and its length in four bytes, and prints the answer to each
+// as a line: `V` verifies a program sheet, `C` checks a contract sheet's length, form and limits, as lowering does before its walk.
 // tests/replay.sh makes the list that the program is run on, and the answers expected.
-// No contract can say which bytes are read or written: `lines::verify_line` has the contract on the bytes.
+// No contract can say which bytes are read or written: `lines::verify_line` and `lines::contract_line` have the contracts on the bytes.
 ghost use mathlib.Core.Path.{_≡_};
 ghost use Prim.Native.Nat.{_≤_};
 ghost use lib.ListN.{length, take};
@@ -17,25 +18,48 @@ fn read_sheet(n: usize, sheet: &mut [u8]) -> usize
     io::read_full(STDIN_FILENO, &mut sheet[..n])
 }
 
-// The next sheet's length; more than any sheet's if there is none.
-fn read_length() -> usize {
-    let mut head = [0u8; 4];
-    if io::read_full(STDIN_FILENO, &mut head) < 4 {
-        return 65536;
+// What is asked of the next sheet, and its length. The end of the input asks nothing, which is 0.
+struct Head {
+    asked: u8,
+    length: usize,
+}
+
+fn read_head() -> Head {
+    let mut head = [0u8; 5];
+    if io::read_full(STDIN_FILENO, &mut head) < 5 {
+        return Head {
+            asked: 0,
+            length: 0,
+        };
     }
-    fields::read(&head, 0, 4)
+    Head {
+        asked: head[0],
+        length: fields::read(&head, 1, 4),
+    }
+}
+
+// Puts the line of the answer into `out`, and gives its length: 0 where something else is asked.
+fn answer_line(asked: u8, sheet: &[u8], out: &mut [u8; 128]) -> usize
+    ensures { λ r. ⌜ (r ≤ length (now (out .exit))) × (r ≡ length (take r (now (out .exit)))) ⌝ }
+{
+    match asked {
+        b'V' => lines::verify_line(sheet, out),
+        b'C' => lines::contract_line(sheet, out),
+        _ => 0,
+    }
 }
 
 // Reads one sheet, prints its line, and answers whether there was one.
 fn replay_one() -> bool {
-    let n = read_length();
-    if 32769 < n {
+    let head = read_head();
+    let n = head.length;
+    if head.asked == 0 || 32769 < n {
         return false;
     }
     let mut sheet = io::large_buffer();
     let got = read_sheet(n, &mut sheet);
     let mut text = [0u8; 128];
-    let k = lines::verify_line(&sheet[..got], &mut text);
+    let k = answer_line(head.asked, &sheet[..got], &mut text);
     io::write_all(STDOUT_FILENO, &text[..k])
 }
 

@@ -91,12 +91,12 @@ pub(crate) fn records(s: &[u8], at: usize, end: usize, pattern: usize) -> Form
         let children = row / 0x1000000;
         let next = after(left, class);
         if next == REFUSED {
-            return Form::Bad(place);
+            return Form::Bad(place); // no record that may stand here
         }
         let stop = place + read(s, place, 4);
         let body = past_fields(s, place + 6, stop, fixed);
         if body == 0 {
-            return Form::Bad(place);
+            return Form::Bad(place); // a fault in its own fields
         }
         if body < stop {
             let inner = records(s, body, stop, children);
@@ -104,7 +104,7 @@ pub(crate) fn records(s: &[u8], at: usize, end: usize, pattern: usize) -> Form
                 return Form::Bad(fault);
             }
         } else if !may_end(children) {
-            return Form::Bad(body);
+            return Form::Bad(body); // a child is missing
         }
         place = stop;
         left = next;

@@ -115,7 +115,3 @@ pub term-is : (s : List ℕ) (q name kind first at stop : ℕ) (ds : Defined) (r
     → r ≡ named name (verifyTerminator (termHere kind s q) (typeHere s (at + 10)) ds (blockIds (blocksHere s first stop)))
     → r ≡ named name (verifyTerminator (termHere (le 2 s (q + 4)) s q) (functionHere s at stop .retTy) ds (blockIds (functionHere s at stop .blocks)))
 term-is s q name kind first at stop ds r k e h = h ∙ ap₂ (λ (x y : ℕ). named name (verifyTerminator (termHere x s q) (typeHere s (at + 10)) ds (blockIds (blocksHere s y stop)))) k e
-
-pub block-is : {end : ℕ} (s : List ℕ) (name b stop : ℕ) (f : IrFunction) (ds : Defined) (fids : List ℕ) (r : Result (ℕ × VerifyError) Done) → stop ≡ end
-    → r ≡ named name (verifyBlock (blockHere s b stop) f ds fids) → r ≡ named name (verifyBlock (blockHere s b end) f ds fids)
-block-is s name b stop f ds fids r e h = h ∙ ap (λ (x : ℕ). named name (verifyBlock (blockHere s b x) f ds fids)) e

@@ -1,5 +1,5 @@
 -- What the checks of an instruction's parts give for the whole instruction, kind by kind; the same for terminators. Assumes nothing.
-use mathlib.Core.Path.{_≡_, refl, ap, sym, _∙_, subst}
+use mathlib.Core.Path.{_≡_, refl, sym, _∙_, subst}
 use mathlib.Core.Bool.{Bool, true, false}
 use mathlib.Core.List.{List, [], _∷_}
 use mathlib.Core.Option.{Option, none, some}
@@ -8,22 +8,48 @@ use native.Mathlib.Omega.{arith}
 use lib.Dec.{leb, eqb}
 use lib.ListN.{length}
 use borrow.Author.Tests.{leb-true, ne-eqb, le-leb, lt-leb}
-use Rattle.definitions.specs.Result.{Result, err, ok, _>>_, check, Done}
+use Rattle.definitions.specs.Result.{Result, err, ok, check, Done}
 use Rattle.definitions.specs.Fields.{le}
 use Rattle.definitions.specs.Ir.{IrType, Instruction, Terminator, contains}
 use Rattle.definitions.specs.Records.{pick, okType, optFrom, readItems, readItem, sizeOf}
 use Rattle.definitions.specs.ProgramSheet.{binaryOf}
-use Rattle.definitions.specs.Verify.{VerifyError, Checked, Defined, definedType, checkValueRefs, checkLocalRef, checkBlockRef, verifyInstr, verifyTerminator}
+use Rattle.definitions.specs.Verify.{VerifyError, Defined, definedType, checkValueRefs, checkLocalRef, checkBlockRef, verifyInstr, verifyTerminator}
 use Rattle.definitions.proofs.Results.{err-ok}
 use Rattle.verify.specs.Answers.{named}
-use Rattle.verify.specs.Positions.{typeHere, idsHere, instrHere, sizeHere, termHere, hasType, typeOffset, InstrPlace}
+use Rattle.verify.specs.Positions.{typeHere, idsHere, instrHere, sizeHere, termHere, InstrPlace}
 use Rattle.verify.proofs.Checks.{failed-then, passed-then}
 
 -- an instruction of kind K has n bytes of fixed fields at least
-pub room : {kind end : ℕ} (q K n : ℕ) → leb n (sizeHere K) ≡ true → kind ≡ K → q + sizeHere kind ≤ end → q + n ≤ end
-room {kind} {end} q K n t e h =
+room : {kind end : ℕ} (q K n : ℕ) → leb n (sizeHere K) ≡ true → q + sizeHere kind ≤ end → kind ≡ K → q + n ≤ end
+room {kind} {end} q K n t h e =
     let f : q + sizeHere K ≤ end = subst (λ (k : ℕ). q + sizeHere k ≤ end) e h in
     omega (arith, leb-true n (sizeHere K) t)
+
+-- where they end, for the kinds with an arm of their own
+pub record Fixed (q end kind : ℕ) : Type 0 where
+  pub load : kind ≡ 71 → q + 22 ≤ end
+  pub store : kind ≡ 72 → q + 20 ≤ end
+  pub state-write : kind ≡ 74 → q + 14 ≤ end
+  pub read-local : kind ≡ 75 → q + 14 ≤ end
+  pub write-local : kind ≡ 76 → q + 12 ≤ end
+  pub call : kind ≡ 77 → q + 14 ≤ end
+  pub assert : kind ≡ 78 → q + 10 ≤ end
+  pub poseidon : kind ≡ 79 → q + 12 ≤ end
+  pub emit : kind ≡ 80 → q + 10 ≤ end
+
+pub fixed-fields : {kind end : ℕ} (q : ℕ) → q + sizeHere kind ≤ end → Fixed q end kind
+unfolding sizeHere
+fixed-fields q h = record {
+  load = room q 71 22 refl h;
+  store = room q 72 20 refl h;
+  state-write = room q 74 14 refl h;
+  read-local = room q 75 14 refl h;
+  write-local = room q 76 12 refl h;
+  call = room q 77 14 refl h;
+  assert = room q 78 10 refl h;
+  poseidon = room q 79 12 refl h;
+  emit = room q 80 10 refl h;
+}
 
 -- a binary instruction has room for its operands, and a type
 pub binary-given : {s : List ℕ} {q k : ℕ} → InstrPlace s q k → (k ≡ 60 → ⊥) → k ≤ 70 → (q + 16 ≤ length s) × (okType (le 2 s (q + 8)) (le 2 s (q + 10)) ≡ true)
@@ -52,84 +78,104 @@ module _ (name : ℕ) (ds : Defined) (a b : ℕ) where
       go none z = absurd (err-ok (sym (rw z at e)))
       go (some t) z = rw z h
 
-module _ (s : List ℕ) (name q end : ℕ) (ds : Defined) (fids : List ℕ) (n : ℕ) where
-  abbrev pub Gives : Result (ℕ × VerifyError) Done → ℕ → Type 0
-  Gives r k = r ≡ named name (verifyInstr (instrHere k s q end) ds fids n)
+-- an instruction's record, and what it is checked against
+pub record Here : Type 0 where
+  pub s : List ℕ
+  pub name : ℕ
+  pub q : ℕ
+  pub end : ℕ
+  pub ds : Defined
+  pub fids : List ℕ
+  pub locals : ℕ
 
-  -- the n ids at a place are defined
+module _ (h : Here) where
+  -- r is the answer to the record as an instruction of kind k
+  abbrev pub Gives : Result (ℕ × VerifyError) Done → ℕ → Type 0
+  Gives r k = r ≡ named (h .name) (verifyInstr (instrHere k (h .s) (h .q) (h .end)) (h .ds) (h .fids) (h .locals))
+
+  -- r is the answer to m ids at a place; to a local; to a function
   abbrev Values : Result (ℕ × VerifyError) Done → ℕ → ℕ → Type 0
-  Values r m p = r ≡ named name (checkValueRefs (idsHere m s p) ds)
+  Values r m p = r ≡ named (h .name) (checkValueRefs (idsHere m (h .s) p) (h .ds))
+
+  abbrev Local : Result (ℕ × VerifyError) Done → ℕ → Type 0
+  Local r l = r ≡ named (h .name) (checkLocalRef l (h .locals))
+
+  abbrev Function : Result (ℕ × VerifyError) Done → ℕ → Type 0
+  Function r f = r ≡ named (h .name) (check (contains f (h .fids)) (VerifyError.UndefinedFunction f))
+
+  -- the id that stands i bytes into the record
+  abbrev id : ℕ → ℕ
+  id i = le 2 (h .s) (h .q + i)
 
   pub const : Gives (ok tt) 60
   unfolding instrHere verifyInstr
   const = refl
 
-  module _ (r : Result (ℕ × VerifyError) Done) where
-    pub binary : (k : ℕ) → (k ≡ 60 → ⊥) → k ≤ 70 → r ≡ named name (verifyInstr (Instruction.Binary (binaryOf k) (typeHere s (q + 8)) (le 2 s (q + 12)) (le 2 s (q + 14))) ds fids n) → Gives r k
+  module _ {r : Result (ℕ × VerifyError) Done} where
+    pub binary : (k : ℕ) → (k ≡ 60 → ⊥) → k ≤ 70 → r ≡ named (h .name) (verifyInstr (Instruction.Binary (binaryOf k) (typeHere (h .s) (h .q + 8)) (id 12) (id 14)) (h .ds) (h .fids) (h .locals)) → Gives r k
     unfolding instrHere
-    binary k h l e = rw (ne-eqb k 60 h, le-leb k 70 l) e
+    binary k n l e = rw (ne-eqb k 60 n, le-leb k 70 l) e
 
-    pub load : Values r 1 (q + 12) → Gives r 71
+    pub load : Values r 1 (h .q + 12) → Gives r 71
     unfolding instrHere verifyInstr idsHere readItems readItem
     load e = e
 
-    pub store : ok tt ≡ named name (checkValueRefs (idsHere 1 s (q + 8)) ds) → Values r 1 (q + 18) → Gives r 72
+    pub store : Values (ok tt) 1 (h .q + 8) → Values r 1 (h .q + 18) → Gives r 72
     unfolding instrHere verifyInstr idsHere readItems readItem
-    store e h = two-good name ds (le 2 s (q + 8)) (le 2 s (q + 18)) r e h
+    store e v = two-good (h .name) (h .ds) (id 8) (id 18) r e v
 
-    pub state-write : Values r 1 (q + 12) → Gives r 74
+    pub state-write : Values r 1 (h .q + 12) → Gives r 74
     unfolding instrHere verifyInstr idsHere readItems readItem
     state-write e = e
 
-    pub read-local : (l : ℕ) → l ≡ le 2 s (q + 8) → r ≡ named name (checkLocalRef l n) → Gives r 75
+    pub read-local : {l : ℕ} → l ≡ id 8 → Local r l → Gives r 75
     unfolding instrHere verifyInstr
-    read-local l z e = subst (λ (x : ℕ). r ≡ named name (checkLocalRef x n)) z e
+    read-local z e = subst (Local r) z e
 
-    pub write-local : (l : ℕ) → l ≡ le 2 s (q + 8) → ok tt ≡ named name (checkLocalRef l n) → Values r 1 (q + 10) → Gives r 76
+    pub write-local : {l : ℕ} → l ≡ id 8 → Local (ok tt) l → Values r 1 (h .q + 10) → Gives r 76
     unfolding instrHere verifyInstr idsHere readItems readItem
-    write-local l z e h =
-        h ∙ sym (passed-then name (checkLocalRef (le 2 s (q + 8)) n) (checkValueRefs (le 2 s (q + 10) ∷ []) ds) (subst (λ (x : ℕ). ok tt ≡ named name (checkLocalRef x n)) z e))
+    write-local z e v = v ∙ sym (passed-then (h .name) (checkLocalRef (id 8) (h .locals)) (checkValueRefs (id 10 ∷ []) (h .ds)) (subst (Local (ok tt)) z e))
 
-    pub call : (f : ℕ) → f ≡ le 2 s (q + 8) → ok tt ≡ named name (check (contains f fids) (VerifyError.UndefinedFunction f)) → Values r ((end - (q + 14)) / 2) (q + 14) → Gives r 77
+    pub call : {f : ℕ} → f ≡ id 8 → Function (ok tt) f → Values r ((h .end - (h .q + 14)) / 2) (h .q + 14) → Gives r 77
     unfolding instrHere verifyInstr
-    call f z e h =
-        h ∙ sym (passed-then name (check (contains (le 2 s (q + 8)) fids) (VerifyError.UndefinedFunction (le 2 s (q + 8)))) (checkValueRefs (idsHere ((end - (q + 14)) / 2) s (q + 14)) ds)
-        (subst (λ (x : ℕ). ok tt ≡ named name (check (contains x fids) (VerifyError.UndefinedFunction x))) z e))
+    call z e v =
+        v ∙ sym (passed-then (h .name) (check (contains (id 8) (h .fids)) (VerifyError.UndefinedFunction (id 8))) (checkValueRefs (idsHere ((h .end - (h .q + 14)) / 2) (h .s) (h .q + 14)) (h .ds))
+        (subst (Function (ok tt)) z e))
 
-    pub assert : Values r 1 (q + 8) → Gives r 78
+    pub assert : Values r 1 (h .q + 8) → Gives r 78
     unfolding instrHere verifyInstr idsHere readItems readItem
     assert e = e
 
-    pub poseidon : Values r 2 (q + 8) → Gives r 79
+    pub poseidon : Values r 2 (h .q + 8) → Gives r 79
     unfolding instrHere verifyInstr idsHere readItems readItem sizeOf
-    poseidon e = let z : q + 8 + 2 ≡ q + 10 = omega arith in subst (λ (x : ℕ). r ≡ named name (checkValueRefs (le 2 s (q + 8) ∷ le 2 s x ∷ []) ds)) z e
+    poseidon e = let z : h .q + 8 + 2 ≡ h .q + 10 = omega arith in subst (λ (x : ℕ). r ≡ named (h .name) (checkValueRefs (id 8 ∷ le 2 (h .s) x ∷ []) (h .ds))) z e
 
-    pub emit : Values r ((end - (q + 10)) / 2) (q + 10) → Gives r 80
+    pub emit : Values r ((h .end - (h .q + 10)) / 2) (h .q + 10) → Gives r 80
     unfolding instrHere verifyInstr
     emit e = e
 
   -- the first of two parts failed
   module _ {x : ℕ × VerifyError} where
-    pub store-bad : err x ≡ named name (checkValueRefs (idsHere 1 s (q + 8)) ds) → Gives (err x) 72
+    pub store-bad : Values (err x) 1 (h .q + 8) → Gives (err x) 72
     unfolding instrHere verifyInstr idsHere readItems readItem
-    store-bad e = two-bad name ds (le 2 s (q + 8)) (le 2 s (q + 18)) e
+    store-bad e = two-bad (h .name) (h .ds) (id 8) (id 18) e
 
-    pub write-local-bad : (l : ℕ) → l ≡ le 2 s (q + 8) → err x ≡ named name (checkLocalRef l n) → Gives (err x) 76
+    pub write-local-bad : {l : ℕ} → l ≡ id 8 → Local (err x) l → Gives (err x) 76
     unfolding instrHere verifyInstr
-    write-local-bad l z e = failed-then name (checkLocalRef (le 2 s (q + 8)) n) (checkValueRefs (le 2 s (q + 10) ∷ []) ds) (subst (λ (y : ℕ). err x ≡ named name (checkLocalRef y n)) z e)
+    write-local-bad z e = failed-then (h .name) (checkLocalRef (id 8) (h .locals)) (checkValueRefs (id 10 ∷ []) (h .ds)) (subst (Local (err x)) z e)
 
-    pub call-bad : (f : ℕ) → f ≡ le 2 s (q + 8) → err x ≡ named name (check (contains f fids) (VerifyError.UndefinedFunction f)) → Gives (err x) 77
+    pub call-bad : {f : ℕ} → f ≡ id 8 → Function (err x) f → Gives (err x) 77
     unfolding instrHere verifyInstr
-    call-bad f z e =
-        failed-then name (check (contains (le 2 s (q + 8)) fids) (VerifyError.UndefinedFunction (le 2 s (q + 8)))) (checkValueRefs (idsHere ((end - (q + 14)) / 2) s (q + 14)) ds)
-        (subst (λ (y : ℕ). err x ≡ named name (check (contains y fids) (VerifyError.UndefinedFunction y))) z e)
+    call-bad z e =
+        failed-then (h .name) (check (contains (id 8) (h .fids)) (VerifyError.UndefinedFunction (id 8))) (checkValueRefs (idsHere ((h .end - (h .q + 14)) / 2) (h .s) (h .q + 14)) (h .ds))
+        (subst (Function (err x)) z e)
 
   -- the kinds that refer to nothing: each of the others is left out by a fact
   abbrev Quiet : Instruction → Type 0
-  Quiet i = ok tt ≡ named name (verifyInstr i ds fids n)
+  Quiet i = ok tt ≡ named (h .name) (verifyInstr i (h .ds) (h .fids) (h .locals))
 
   skip : (k K : ℕ) (i j : Instruction) → (k ≡ K → ⊥) → Quiet j → Quiet (pick (eqb k K) i j)
-  skip k K i j h e = rw (ne-eqb k K h) e
+  skip k K i j n e = rw (ne-eqb k K n) e
 
   either : (b : Bool) (i j : Instruction) → Quiet i → Quiet j → Quiet (pick b i j)
   either true i j e f = e
@@ -141,9 +187,9 @@ module _ (s : List ℕ) (name q end : ℕ) (ds : Defined) (fids : List ℕ) (n :
       either (eqb k 60) _ _ refl (rw (lt-leb k 70 l)
       (skip k 71 _ _ h71 (skip k 72 _ _ h72 (either (eqb k 73) _ _ refl (skip k 74 _ _ h74 (skip k 75 _ _ h75 (skip k 76 _ _ h76 (skip k 77 _ _ h77 (skip k 78 _ _ h78 (skip k 79 _ _ h79 (skip k 80 _ _ h80 refl)))))))))))
 
--- an instruction by the kind that it has
-pub by-kind : {K : ℕ} (s : List ℕ) (name q end : ℕ) (ds : Defined) (fids : List ℕ) (n k : ℕ) (r : Result (ℕ × VerifyError) Done) → k ≡ K → Gives s name q end ds fids n r K → Gives s name q end ds fids n r k
-by-kind s name q end ds fids n k r e h = subst (λ (x : ℕ). Gives s name q end ds fids n r x) (sym e) h
+  -- by the kind that the instruction has
+  pub by-kind : {k K : ℕ} {r : Result (ℕ × VerifyError) Done} → k ≡ K → Gives r K → Gives r k
+  by-kind {r = r} e g = subst (Gives r) (sym e) g
 
 -- TERMINATORS
 module _ (s : List ℕ) (name q : ℕ) (ret : IrType) (ds : Defined) (ids : List ℕ) where

@@ -17,7 +17,7 @@ use Rattle.definitions.proofs.Sheets.Passed.{Head, Fine, ends, goes, fine, read
 use Rattle.definitions.proofs.Sheets.Lines.{OfRows, Given, by-lines, same-class, not-left}
 use Rattle.definitions.proofs.Sheets.Singles.{itemsFrom, after as afterAll, Valid, Singles, singles, Counted, counted-field}
 use Rattle.definitions.proofs.Sheets.Steps.{Step, here, past, many-step, perhaps-step, One, this, one-step, done-ends, low}
-use Rattle.verify.specs.Positions.{typeHere, instrHere, sizeHere, termHere, paramsHere, localsAt, firstBlock, typesHere, blocksHere, functionHere, functionsHere, FunctionAt, BlockFrom, InstrPlace}
+use Rattle.verify.specs.Positions.{typeHere, instrHere, sizeHere, termHere, paramsHere, localsAt, firstBlock, typesHere, blocksHere, functionHere, functionsHere, FunctionAt, BlockFrom, BlocksFrom, BlockEnds, InstrPlace}
 use Rattle.verify.proofs.Records.{InstrAt, instr-at}
 
 -- TERMINATORS
@@ -196,6 +196,9 @@ block-here {s} {b} {end} f l = go (at-blocks f)
     go : AtBlock s b end → (stop : ℕ) × BlockStep s b end stop
     go (no-block e) = absurd (omega arith)
     go (at-block {stop} B) = (stop, B)
+
+pub block-to : {s : List ℕ} {b stop end : ℕ} → BlocksFrom s b stop → b < stop → BlockEnds s b stop end → BlockStep s b stop end
+block-to {s} {b} {stop} {end} f l e = let B = block-here f l in subst (BlockStep s b stop) (B .1 .stop-is ∙ sym (e .1 l)) (B .1)
 
 -- FUNCTIONS
 pub record FunctionStep (s : List ℕ) (at end stop : ℕ) : Type 0 where

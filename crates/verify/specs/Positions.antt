@@ -1,6 +1,6 @@
 -- What stands at the places of a program sheet that passed 40: the records of a function by position, as the code reads them.
 -- Helpers of this crate's proofs: no public promise cites them. Assumes nothing: these are definitions.
-use Prim.Native.Nat.{ℕ, _+_, _-_, _*_, _/_, _%_, _≤_}
+use Prim.Native.Nat.{ℕ, _+_, _-_, _*_, _/_, _%_, _≤_, _<_}
 use mathlib.Core.Path.{_≡_}
 use mathlib.Core.Bool.{Bool, true, false, _&&_}
 use mathlib.Core.List.{List, [], _∷_, map}
@@ -136,6 +136,13 @@ pub record FunctionAt (s : List ℕ) (at stop : ℕ) : Type 0 where
   pub blocks : Fine s (firstBlock s at) stop (many Class.basicBlock done)
   pub params : okItems valueAndType (le 2 s (at + 14)) s (at + 16) ≡ true
   pub returns : okType (le 2 s (at + 10)) (le 2 s (at + 10 + 2)) ≡ true
+
+-- the blocks of a function from b on; the end of the one at b, if there is one
+abbrev pub BlocksFrom : List ℕ → ℕ → ℕ → Type 0
+BlocksFrom s b stop = Fine s b stop (many Class.basicBlock done)
+
+abbrev pub BlockEnds : List ℕ → ℕ → ℕ → ℕ → Type 0
+BlockEnds s b stop end = (b ≤ end) × (b < stop → end ≡ b + le 4 s b)
 
 -- a block's records from q to its end
 abbrev pub BlockFrom : List ℕ → ℕ → ℕ → Type 0

@@ -12,7 +12,7 @@ ghost use Rattle.definitions.specs.Records.{readRecords, typeFrom, optFrom};
 ghost use Rattle.definitions.specs.Verify.{Defined, defineParams, defineResult, defineResults, defineBlocks, blockIds, verifyInstr, verifyTerminator, verifyBlock, verifyBlocks, verifyFunction, verifyFunctions};
 ghost use Rattle.ir.specs.Types.{asType};
 ghost use Rattle.verify.specs.Answers.{answerOf, checkedOf, named};
-ghost use Rattle.verify.specs.Positions.{rawOpt, typeHere, instrHere, sizeHere, instrsHere, termHere, blockHere, paramsHere, localsAt, firstBlock, blocksHere, functionHere, functionsHere, idsOfAll, localCount, FunctionsFrom, FunctionAt, BlockFrom, InstrPlace, TermPlace};
+ghost use Rattle.verify.specs.Positions.{rawOpt, typeHere, instrHere, sizeHere, instrsHere, termHere, blockHere, paramsHere, localsAt, firstBlock, blocksHere, functionHere, functionsHere, idsOfAll, localCount, FunctionsFrom, FunctionAt, BlockFrom, BlocksFrom, BlockEnds, InstrPlace, TermPlace};
 ghost use Rattle.verify.specs.Entries.{Entry, resultEntry, paramEntries, blockEntries, entriesHere, firstPlace, firstType, Same};
 
 mod refs; // references to values, blocks, functions and locals
@@ -372,21 +372,34 @@ fn verify_block(
     Checked::Failed(VerifyError::MissingTerminator(Name(name), BlockId(id)))
 }
 
+// The end of the block at b; `stop` if the blocks stop there.
+fn block_end(s: &[u8], b: usize, stop: usize) -> usize
+    requires { ⌜ BlocksFrom (now s) b stop × (stop ≤ length (now s)) ⌝ }
+    ensures { λ r. ⌜ BlockEnds (now (s .entry)) b stop r ⌝ }
+{
+    if b < stop {
+        b + fields::read(s, b, 4)
+    } else {
+        stop
+    }
+}
+
 // All blocks of the function at `at`.
 fn verify_blocks(s: &[u8], at: usize, first: usize, stop: usize, name: u16) -> Checked
     requires { ⌜ FunctionAt (now s) at stop × ((first ≡ firstBlock (now s) at) × FunctionsFrom (now s) 6) ⌝ }
     ensures { λ r. ⌜ ((ds : Defined) → Same ds (entriesHere (now (s .entry)) at first stop) → checkedOf r ≡ named name (verifyBlocks (blocksHere (now (s .entry)) first stop) (functionHere (now (s .entry)) at stop) ds (idsOfAll (now (s .entry))))) ⌝ }
 {
-    let mut b = first;
-    while b < stop {
-        let end = b + fields::read(s, b, 4);
-        match verify_block(s, at, first, stop, name, b, end) {
+    let mut start = first;
+    let mut end = block_end(s, start, stop);
+    while start < stop {
+        match verify_block(s, at, first, stop, name, start, end) {
             Checked::Passed => {}
             Checked::Failed(e) => {
                 return Checked::Failed(e);
             }
         }
-        b = end;
+        start = end;
+        end = block_end(s, start, stop);
     }
     Checked::Passed
 }

@@ -8,7 +8,7 @@ pub mod exhaust;
 mod expr;
 mod items;
 mod lower_limits;
-mod nesting;
+pub mod nesting;
 mod program;
 pub mod rng;
 mod rules;

@@ -58,7 +58,7 @@ fn statements(levels: u32) -> [Stmt; 6] {
 /// Field accesses nested some levels around a record of the given kind and 8
 /// bytes, written from the outside in: the writer's recursion would not bear
 /// thousands of levels.
-fn accesses(levels: usize, inner: u16) -> Vec<u8> {
+pub fn accesses(levels: usize, inner: u16) -> Vec<u8> {
     let outside = [kind::CONTRACT, kind::FUNCTION, kind::EXPR];
     let mut sheet = Vec::new();
     let total = 8 + 14 + 6 + 8 * (levels + 1);

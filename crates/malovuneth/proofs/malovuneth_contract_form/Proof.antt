@@ -1,10 +1,16 @@
 -- `malovuneth::malovuneth_contract_form`: good, or the place. Assumes nothing.
-use mathlib.Core.Path.{_≡_, refl, _∙_}
+use mathlib.Core.Path.{_≡_, sym, ap, _∙_}
+use Rattle.definitions.specs.Records as records
+use Rattle.definitions.specs.Answers.{numbersOf, padded, refuseForm}
+use Rattle.sheet.specs.declared.Form.{Form}
 use Rattle.sheet.specs.Forms.{formOf}
-use Rattle.malovuneth.proofs.Rows.{of-form}
 use borrow.Author.Needs.{needs}
 use Rattle.malovuneth.proofs.malovuneth_contract_form.Statement.{statement}
 use Rattle.malovuneth.proofs.malovuneth_contract_form.Tie as tie
+
+-- the numbers of what the form was found to be
+of-form : {f x : Form} {s : records.Form} → f ≡ x → formOf f ≡ s → padded 6 (numbersOf (refuseForm 3 (formOf x))) ≡ padded 6 (numbersOf (refuseForm 3 s))
+of-form q e = ap (λ (r : records.Form). padded 6 (numbersOf (refuseForm 3 r))) (sym (ap formOf q) ∙ e)
 
 contract-form-requires : tie.Need-contract-form-requires
 contract-form-requires c κs = search needs
