@@ -1,38 +1,98 @@
 #!/usr/bin/env bash
 # Makes the list that the program replay is run on, and the answers expected: tests/replay.sh DIFFERENTIAL
-# DIFFERENTIAL is the built program of the differential test; its `sample verify 1 400` prints fixed program sheets in hexadecimal
-# with the answers of the Rust that verify was written after, some of each number: OK, 1 (one sheet of 32,769 bytes) and 40 to 50; and
-# `sample check 1 100` contract sheets, with OK, 1, 3 and 4: what lowering asks before its walk.
-# Then come the sheets of crates/definitions/specs/Readings.antt with their answers there, except the contract sheets that only lowering
-# answers, and those of tests/readings.txt with the answers that DIFFERENTIAL gives.
-# crates/replay/stdin: for each sheet what is asked (V: verify, C: check), its length in four bytes, little-endian, then its bytes.
+# DIFFERENTIAL is the built program of the differential test. Its `sample TASK 1 COUNT` prints fixed sheets in hexadecimal with the
+# answers of the Rust that this is written after, some of each number: `verify` program sheets, with OK, 1 (one sheet of 32,769 bytes) and
+# 40 to 50; `check` contract sheets, with OK, 1, 3 and 4: what lowering asks before its walk; `lower` contract sheets, with OK, 1, 3, 4, 10 to
+# 20, 30 and 31. Then come
+# - P1 to P12 of differential/rows.txt;
+# - what document 01 asks to be run only, and reading 9 of docs/DECISIONS.md: sheets that are made here;
+# - the sheets of crates/definitions/specs/Readings.antt, and those of tests/readings.txt. Two of the former, 10a and 10b, lend an output of
+#   5 and of 0 bytes: replay lends 32,768 always, so they are rows of Readings.antt alone.
+# All answers are those that DIFFERENTIAL gives; the answers of Readings.antt have to be the same.
+# crates/replay/stdin: for each sheet what is asked (V: verify, C: check, L: lower), its length in four bytes, little-endian, then its bytes.
 # crates/replay/stdout: a line each.
 set -eu
 differential=$(realpath "$1")
-cd "$(dirname "$0")/../crates/replay"
-python3 -c '
+cd "$(dirname "$0")/.."
+python3 - "$differential" <<'PYTHON'
 import re, subprocess, sys
-TASKS = {"V": "verify", "C": "check"}
+TASKS = {"V": "verify", "C": "check", "L": "lower"}
 def ask(*words, sheet=b""):
     return subprocess.run([sys.argv[1], *words], input=sheet, capture_output=True, check=True).stdout.decode()
+
 cases = []
-for asked, count in ("V", "400"), ("C", "100"):
+def case(asked, sheet):
+    cases.append((asked, sheet, ask("answer", TASKS[asked], sheet=sheet).strip()))
+    return cases[-1][2]
+
+for asked, count in ("V", "400"), ("C", "100"), ("L", "300"):
     for line in ask("sample", TASKS[asked], "1", count).splitlines():
         sheet, answer = line.split(" -> ")
         cases.append((asked, bytes.fromhex(sheet), answer))
-readings = open("../definitions/specs/Readings.antt").read()
-for asks, sheet, answer in re.findall(r"asks = (\w+).*?;\s*sheet = (.*?);\s*answer = (.*?);", readings, re.S):
-    numbers = re.findall(r"\b[0-9]+\b", answer)
-    asked = "V" if asks == "verifies" else "C"
-    if asked == "V" or numbers[:1] in (["1"], ["3"], ["4"]):
-        cases.append((asked, bytes(int(b, 16) for b in re.findall(r"0x([0-9A-F]{2})", sheet)), " ".join(numbers) or "OK"))
-for line in open("../../tests/readings.txt"):
+for line in open("differential/rows.txt"):
+    case("L", bytes.fromhex(line.split("|")[1]))
+
+# Contract sheets by their records. The contract is named 10, its function 11, y is 20, which is not declared.
+def u16(n): return n.to_bytes(2, "little")
+def record(kind, *parts):
+    body = b"".join(parts)
+    return (6 + len(body)).to_bytes(4, "little") + u16(kind) + body
+def contract(*statements): return record(1, u16(10), record(4, u16(11), u16(65535), u16(0), u16(0), *statements))
+one = record(30, (1).to_bytes(8, "little"))
+y = record(31, u16(20))
+block = lambda *statements: record(5, *statements)
+let = lambda e: record(10, u16(22), e)
+when = lambda e, body: record(15, e, body)
+loop = lambda e: record(16, e, block())
+turns = lambda a, b: record(17, u16(22), a, b, block())
+add = lambda a, b: record(36, u16(0), a, b)
+leave = record(18)
+skipped = record(20, one)
+def nested(n, f, x):
+    for _ in range(n): x = f(x)
+    return x
+
+# 256 Lets pass, 257 give 30
+case("L", contract(*[let(one)] * 256))
+case("L", contract(*[let(one)] * 257))
+# depth 40 and 41: the block of the 19th If inside the others, and a statement in it; the operands of 36 sums inside each other, and of 37
+for inside in (), (leave,):
+    case("L", contract(nested(18, lambda s: when(one, block(s)), when(one, block(*inside)))))
+for sums in 36, 37:
+    case("L", contract(record(20, nested(sums, lambda e: add(e, one), one))))
+# 32,768 and 32,769 bytes
+full = contract(leave, *[skipped] * 1637)
+assert len(full) == 32768
+case("L", full)
+case("L", full + b"\0")
+# reading 9: with 256 locals made, a Let and a For meet what is wrong in their expressions first; with 256 blocks made, an If does, and a While
+# does not
+case("L", contract(*[let(one)] * 256, let(y)))
+case("L", contract(*[let(one)] * 255, turns(one, y)))
+case("L", contract(*[let(one)] * 255, turns(one, one)))
+case("L", contract(*[when(one, block())] * 85))
+case("L", contract(*[when(one, block())] * 85, when(y, block())))
+case("L", contract(*[when(one, block())] * 85, when(one, block())))
+case("L", contract(*[when(one, block())] * 85, loop(y)))
+
+readings = open("crates/definitions/specs/Readings.antt").read()
+for asks, sheet, accepted, answer in re.findall(r"asks = (.*?);\s*sheet = (.*?);\s*answer = (ok|err)(.*?);", readings, re.S):
+    sheet = bytes(int(b, 16) for b in re.findall(r"0x([0-9A-F]{2})", sheet))
+    if accepted == "ok": answer = " ".join(["OK", *re.findall(r"0x([0-9A-F]{2})", answer)])
+    else: answer = " ".join(re.findall(r"\b[0-9]+\b", answer))
+    if asks == "verifies": asked = "V"
+    elif asks == "lowers 32768": asked = "L"
+    else: continue
+    given = case(asked, sheet)
+    assert given == answer, (asks, sheet.hex(), answer, given)
+    if asked == "L" and answer.split(" ")[0] in ("1", "3", "4"): case("C", sheet)
+for line in open("tests/readings.txt"):
     if not line.startswith("#"):
         asked, sheet = line.split(" ")[:2]
-        sheet = bytes.fromhex(sheet.replace("-", ""))
-        cases.append((asked, sheet, ask("answer", TASKS[asked], sheet=sheet).strip()))
-with open("stdin", "wb") as sheets, open("stdout", "w") as answers:
+        case(asked, bytes.fromhex(sheet.replace("-", "")))
+
+with open("crates/replay/stdin", "wb") as sheets, open("crates/replay/stdout", "w") as answers:
     for asked, sheet, answer in cases:
         sheets.write(asked.encode() + len(sheet).to_bytes(4, "little") + sheet)
         answers.write(answer + "\n")
-' "$differential"
+PYTHON

@@ -1,7 +1,7 @@
 //! The proved operations, by the static library that `rt` writes.
 
 use crate::oracle::Answer;
-use crate::subject::{SelfSubject, Subject};
+use crate::subject::Subject;
 
 /// How many numbers an answer has: its own and at most five details.
 const NUMBERS: usize = 6;
@@ -10,6 +10,13 @@ extern "C" {
     fn malovuneth_verify(sheet: *const u8, length: usize, out: *mut [usize; NUMBERS]);
     fn malovuneth_contract_check(sheet: *const u8, length: usize, out: *mut [usize; NUMBERS]);
     fn malovuneth_contract_form(sheet: *const u8, length: usize, out: *mut [usize; NUMBERS]);
+    fn malovuneth_lower(
+        sheet: *const u8,
+        length: usize,
+        out: *mut u8,
+        room: usize,
+        numbers: *mut [usize; NUMBERS],
+    );
 }
 
 /// The numbers of the verifier's answer.
@@ -36,8 +43,25 @@ pub fn contract_form(sheet: &[u8]) -> [usize; NUMBERS] {
     out
 }
 
-/// The archive, where an operation is in it. Lowering is not: there the oracle
-/// stands in, so that verifying and the check before lowering are compared.
+/// The numbers of lowering's answer, whose second one is on acceptance the
+/// length of the sheet that `out` then begins with.
+pub fn lower(sheet: &[u8], out: &mut [u8]) -> [usize; NUMBERS] {
+    let mut numbers = [usize::MAX; NUMBERS];
+    // SAFETY: the sheet, the output and the numbers are lent for the call
+    // alone, and do not overlap.
+    unsafe {
+        malovuneth_lower(
+            sheet.as_ptr(),
+            sheet.len(),
+            out.as_mut_ptr(),
+            out.len(),
+            &mut numbers,
+        )
+    };
+    numbers
+}
+
+/// The operations of the archive.
 pub struct Archive;
 
 impl Subject for Archive {
@@ -50,22 +74,28 @@ impl Subject for Archive {
     }
 
     fn lower(&self, sheet: &[u8], out: &mut [u8]) -> Answer {
-        SelfSubject.lower(sheet, out)
+        match lower(sheet, out) {
+            [0, length, 0, 0, 0, 0] if length <= out.len() => {
+                Answer::Accepted(out[..length].to_vec())
+            }
+            numbers => answer(numbers),
+        }
     }
 }
 
 /// How many details a refusal of a number has, by document 01.
 fn details(number: usize) -> usize {
     match number {
-        3 | 4 | 40 => 1,
-        41..=44 | 48..=50 => 2,
+        3 | 4 | 10..=12 | 30 | 40 => 1,
+        14 | 41..=44 | 48..=50 => 2,
         46 => 4,
         45 | 47 => 5,
         _ => 0,
     }
 }
 
-/// Surplus numbers must be 0; those that are not stay, and so differ.
+/// The answer but for an accepted lowering. Surplus numbers must be 0; those
+/// that are not stay, and so differ.
 fn answer(numbers: [usize; NUMBERS]) -> Answer {
     let [number, rest @ ..] = numbers;
     let surplus = rest[details(number)..].iter().any(|&n| n != 0);
@@ -73,8 +103,10 @@ fn answer(numbers: [usize; NUMBERS]) -> Answer {
         return Answer::Accepted(Vec::new());
     }
     let kept = if surplus { rest.len() } else { details(number) };
+    // What does not fit is no number of an answer, and so differs.
+    let detail = |&n: &usize| u32::try_from(n).unwrap_or(u32::MAX);
     Answer::Refused {
-        number: number as u16,
-        details: rest[..kept].iter().map(|&n| n as u32).collect(),
+        number: u16::try_from(number).unwrap_or(u16::MAX),
+        details: rest[..kept].iter().map(detail).collect(),
     }
 }

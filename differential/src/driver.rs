@@ -1,9 +1,10 @@
 //! Asks subject and oracle the same, and reports.
 
 use std::collections::BTreeMap;
+use std::hint::black_box;
 use std::time::Instant;
 
-use crate::generate::{self, exhaust, Case};
+use crate::generate::{self, bodies, exhaust, Case};
 use crate::oracle::{check_answer, lower_answer, verify_answer, Answer};
 use crate::proof_sheets::hex;
 use crate::sheet::{kind, SHEET_LIMIT};
@@ -69,32 +70,78 @@ pub struct Difference {
     pub got: String,
 }
 
-/// What the lent output holds before the call: never a zero, so that a byte
-/// left untouched shows.
+impl Difference {
+    fn between(expected: impl ToString, got: impl ToString) -> Self {
+        Difference {
+            expected: expected.to_string(),
+            got: got.to_string(),
+        }
+    }
+}
+
+/// What subject and oracle both gave.
+#[derive(Debug)]
+pub struct Agreed {
+    pub answer: Answer,
+    /// The number of the verifier's answer to what a lowering gave.
+    pub verified: Option<u16>,
+}
+
+/// What the lent output holds before the call, and the bytes around it: never
+/// a zero, so that a byte left untouched shows.
 const FILL: u8 = 0xA5;
+
+/// How many bytes stand before the lent output, and how many behind it: they
+/// must stay as they are.
+const AROUND: usize = 16;
 
 /// Longer than any lent output: comparing with it is faster than a loop.
 static ZEROS: [u8; 1 << 16] = [0; 1 << 16];
 
-/// Compares the answers, and for lowering every byte of the output.
-pub fn compare(subject: &dyn Subject, task: Task, case: &Case) -> Result<Answer, Difference> {
-    let expected = task.expected(case);
-    let mut out = vec![FILL; case.room];
-    let got = match task {
-        Task::Verify => subject.verify(&case.sheet),
-        Task::Check => subject.check(&case.sheet),
-        Task::Lower => subject.lower(&case.sheet, &mut out),
+/// Asks both, and compares the answers.
+pub fn compare(subject: &dyn Subject, task: Task, case: &Case) -> Result<Agreed, Difference> {
+    let lent = case.sheet.clone();
+    let agreed = match task {
+        Task::Lower => compare_lowering(subject, case, &lent)?,
+        Task::Verify => agreed(task.expected(case), subject.verify(&lent))?,
+        Task::Check => agreed(task.expected(case), subject.check(&lent))?,
     };
+    match *black_box(&lent) == case.sheet {
+        true => Ok(agreed),
+        false => Err(Difference::between("the sheet unchanged", hex(&lent))),
+    }
+}
+
+fn agreed(expected: Answer, got: Answer) -> Result<Agreed, Difference> {
     if got != expected {
-        return Err(Difference {
-            expected: expected.to_string(),
-            got: got.to_string(),
-        });
+        return Err(Difference::between(expected, got));
     }
-    if task == Task::Lower {
-        compare_output(&expected, &out)?;
+    Ok(Agreed {
+        answer: expected,
+        verified: None,
+    })
+}
+
+/// The answers, every byte of the output, and what verifying says of it.
+fn compare_lowering(
+    subject: &dyn Subject,
+    case: &Case,
+    sheet: &[u8],
+) -> Result<Agreed, Difference> {
+    let mut around = vec![FILL; AROUND + case.room + AROUND];
+    let out = &mut around[AROUND..AROUND + case.room];
+    let got = subject.lower(sheet, out);
+    let mut agreed = agreed(Task::Lower.expected(case), got)?;
+    compare_output(&agreed.answer, out)?;
+    let (before, behind) = (&around[..AROUND], &around[AROUND + case.room..]);
+    if before != [FILL; AROUND] || behind != [FILL; AROUND] {
+        let got = format!("{} before it, {} behind it", hex(before), hex(behind));
+        return Err(Difference::between("nothing beside the output", got));
     }
-    Ok(expected)
+    if let Answer::Accepted(finished) = &agreed.answer {
+        agreed.verified = Some(compare_verifying(subject, finished)?);
+    }
+    Ok(agreed)
 }
 
 /// On acceptance the output holds the sheet, then zeros; else zeros alone.
@@ -110,10 +157,27 @@ fn compare_output(expected: &Answer, out: &[u8]) -> Result<(), Difference> {
     let wanted = finished.iter().chain(std::iter::repeat(&0));
     let mut pairs = out.iter().zip(wanted).enumerate();
     let (place, (got, wanted)) = pairs.find(|(_, (got, wanted))| got != wanted).unwrap();
-    Err(Difference {
-        expected: format!("{expected}, output byte {place} is {wanted}"),
-        got: format!("the same answer, output byte {place} is {got}"),
-    })
+    Err(Difference::between(
+        format!("{expected}, output byte {place} is {wanted}"),
+        format!("the same answer, output byte {place} is {got}"),
+    ))
+}
+
+/// The numbers that verifying may give to what was lowered: acceptance, and
+/// the refusals for types.
+const OF_LOWERED: [u16; 4] = [0, 45, 46, 47];
+
+/// Verifies what a lowering gave, by both.
+fn compare_verifying(subject: &dyn Subject, finished: &[u8]) -> Result<u16, Difference> {
+    let (expected, got) = (verify_answer(finished), subject.verify(finished));
+    if got != expected {
+        let [expected, got] = [expected, got].map(|answer| format!("lowered, then {answer}"));
+        return Err(Difference { expected, got });
+    }
+    match OF_LOWERED.contains(&expected.number()) {
+        true => Ok(expected.number()),
+        false => Err(Difference::between("a refusal for types at most", expected)),
+    }
 }
 
 /// A run under way.
@@ -122,6 +186,8 @@ pub struct Run<'a> {
     task: Task,
     /// How often each number was answered.
     pub histogram: BTreeMap<u16, u64>,
+    /// The same for verifying what was lowered.
+    pub verified: BTreeMap<u16, u64>,
     started: Instant,
     done: u64,
 }
@@ -134,6 +200,7 @@ impl<'a> Run<'a> {
             subject,
             task,
             histogram: BTreeMap::new(),
+            verified: BTreeMap::new(),
             started: Instant::now(),
             done: 0,
         }
@@ -147,17 +214,23 @@ impl<'a> Run<'a> {
             && (0..count).all(|index| self.ask(&task.case(seed, index)))
     }
 
-    /// All short sheets and all small damages of a few; false after a
-    /// difference.
+    /// All short sheets and all small damages of a few, for lowering also all
+    /// small bodies; false after a difference.
     pub fn exhaust(&mut self) -> bool {
-        let root = self.task.root();
-        exhaust::each(root, &mut |sheet| self.ask(&Case::of(sheet.to_vec())))
+        let task = self.task;
+        let mut ask = |sheet: &[u8]| self.ask(&Case::of(sheet.to_vec()));
+        exhaust::each(task.root(), &mut ask) && (task != Task::Lower || bodies::each(&mut ask))
     }
 
     /// Compares one case; reports a difference and gives false.
     fn ask(&mut self, case: &Case) -> bool {
         match compare(self.subject, self.task, case) {
-            Ok(answer) => *self.histogram.entry(answer.number()).or_default() += 1,
+            Ok(agreed) => {
+                *self.histogram.entry(agreed.answer.number()).or_default() += 1;
+                if let Some(number) = agreed.verified {
+                    *self.verified.entry(number).or_default() += 1;
+                }
+            }
             Err(_) => {
                 self.report(case);
                 return false;
@@ -184,20 +257,33 @@ impl<'a> Run<'a> {
         println!("got:      {}", difference.got);
     }
 
-    /// Whether each number was answered; prints those that were not.
+    /// Whether each number was answered, also by the verifier to what was
+    /// lowered; prints those that were not.
     pub fn all_numbers(&self) -> bool {
         let mut missing = self.task.numbers();
         missing.retain(|number| !self.histogram.contains_key(number));
         if !missing.is_empty() {
             println!("never answered: {missing:?}");
         }
-        missing.is_empty()
+        let mut unverified = OF_LOWERED.to_vec();
+        unverified.retain(|number| !self.verified.contains_key(number));
+        let lowers = self.task == Task::Lower;
+        if lowers && !unverified.is_empty() {
+            println!("never answered by the verifier to what was lowered: {unverified:?}");
+        }
+        missing.is_empty() && !(lowers && !unverified.is_empty())
     }
 
     /// One line for each number, 0 for acceptance.
     pub fn print_histogram(&self) {
         let seconds = self.started.elapsed().as_secs_f64();
         for (number, times) in &self.histogram {
+            println!("{number:>5} {times:>10}");
+        }
+        if !self.verified.is_empty() {
+            println!("verifying what was lowered:");
+        }
+        for (number, times) in &self.verified {
             println!("{number:>5} {times:>10}");
         }
         let rate = self.done as f64 / seconds.max(0.001);

@@ -3,13 +3,16 @@ ghost use mathlib.Core.Path.{_≡_};
 ghost use mathlib.Core.List.{[], _∷_};
 ghost use Prim.Native.Nat.{_≤_};
 ghost use lib.ListN.{length};
-ghost use Rattle.definitions.specs.Answers.{checkContract, numbersOf, padded, verifyRefusal, gotTag, gotName};
+ghost use Rattle.definitions.specs.Answers.{checkContract, lengthNumbers, lowerRefusal, numbersOf, padded, verifyRefusal, gotTag, gotName};
 ghost use Rattle.definitions.specs.Ir as defs;
 ghost use Rattle.definitions.specs.Result.{err, Done};
 ghost use Rattle.ir.specs.Types.{asType};
+ghost use Rattle.lower.specs.Whole as whole;
+ghost use Rattle.names.specs.Answers as names;
 ghost use Rattle.verify.specs.Answers.{answerOf, errorOf, gotType};
 ghost use Rattle.answers.specs.Tells.{Tells};
 use ir::IrType;
+use names::LoweringError;
 use sheet::Form;
 use verify::Answer;
 use verify::Got;
@@ -66,7 +69,7 @@ fn alone(number: usize) -> Numbers
     }
 }
 
-// A refusal with a place.
+// A refusal with a place, or with a length.
 fn placed(number: usize, place: usize) -> Numbers
     ensures { λ r. ⌜ Tells r (number ∷ place ∷ []) ⌝ }
 {
@@ -76,7 +79,14 @@ fn placed(number: usize, place: usize) -> Numbers
     }
 }
 
-// A refusal of the function of a name, with what it is about.
+// A refusal of a name, or of a function.
+fn named(number: usize, name: u16) -> Numbers
+    ensures { λ r. ⌜ Tells r (number ∷ name ∷ []) ⌝ }
+{
+    placed(number, name as usize)
+}
+
+// A refusal of the function of a name, with what it is about; or of the struct of a name, with its field.
 fn about(number: usize, name: u16, what: u16) -> Numbers
     ensures { λ r. ⌜ Tells r (number ∷ name ∷ what ∷ []) ⌝ }
 {
@@ -153,5 +163,40 @@ pub fn check_contract(sheet: &[u8]) -> Numbers
             Form::Bad(p) => placed(4, p),
         },
         Form::Bad(p) => placed(3, p),
+    }
+}
+
+// The numbers of a refusal by the walk of lowering.
+fn lowering_numbers(e: LoweringError) -> Numbers
+    ensures { λ r. ⌜ Tells r (numbersOf {A = Done} (err (lowerRefusal (names.errorOf e)))) ⌝ }
+{
+    match e {
+        LoweringError::UndefinedVariable(n) => named(10, n.0),
+        LoweringError::UndefinedFunction(n) => named(11, n.0),
+        LoweringError::UnresolvedType(s) => named(12, s.0),
+        LoweringError::FieldOfNonStruct => alone(13),
+        LoweringError::NoSuchField(s, f) => about(14, s.0, f.0),
+        LoweringError::StructLiteral => alone(15),
+        LoweringError::MappingRead => alone(16),
+        LoweringError::MappingWrite => alone(17),
+        LoweringError::VoidAsValue => alone(18),
+        LoweringError::PoseidonArguments => alone(19),
+        LoweringError::MerkleProof => alone(20),
+        LoweringError::TooManyBlocksOrLocals(i) => named(30, i.0),
+    }
+}
+
+// The numbers of lowering's answer. Acceptance has two, 0 and the sheet's length.
+pub fn lower_numbers(answer: lower::Answer) -> Numbers
+    ensures { λ r. ⌜ r .count ≡ length (lengthNumbers (whole.answerOf answer)) ⌝ }
+    ensures { λ r. ⌜ (r .list ≡ padded 6 (lengthNumbers (whole.answerOf answer))) × (r .count ≤ 6) ⌝ }
+{
+    match answer {
+        lower::Answer::Accepted(n) => placed(0, n),
+        lower::Answer::TooLong => alone(1),
+        lower::Answer::Malformed(p) => placed(3, p),
+        lower::Answer::OverLimit(p) => placed(4, p),
+        lower::Answer::Refused(e) => lowering_numbers(e),
+        lower::Answer::NoRoom => alone(31),
     }
 }

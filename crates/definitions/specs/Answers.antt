@@ -71,6 +71,24 @@ lowerSheet s room = do
   check (leb (length (writeProgram p)) 32768 && leb (length (writeProgram p)) room) (refusal 31 [])
   ok (writeProgram p)
 
+-- what the operation answers: the sheet's length, or the refusal
+abbrev pub lengthOf : Answer → Result Refusal ℕ
+lengthOf (ok b) = ok (length b)
+lengthOf (err r) = err r
+
+-- the numbers that are handed out for it: 0 and the sheet's length, or the refusal's own number, then its details
+abbrev pub lengthNumbers : Result Refusal ℕ → List ℕ
+lengthNumbers (ok n) = 0 ∷ n ∷ []
+lengthNumbers (err r) = r .number ∷ r .details
+
+abbrev pub loweredNumbers : Answer → List ℕ
+loweredNumbers a = lengthNumbers (lengthOf a)
+
+-- what it leaves in an output of n bytes: the sheet and then zeros, or zeros
+abbrev pub outputOf : Answer → (n : ℕ) → List ℕ
+outputOf (ok b) n = padded n b
+outputOf (err r) n = padded n []
+
 -- a type that was got, or none
 abbrev pub gotTag : Option IrType → ℕ
 gotTag none = 65535

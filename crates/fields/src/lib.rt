@@ -3,7 +3,7 @@ ghost use mathlib.Core.Path.{_≡_};
 ghost use Prim.Native.Nat.{ℕ, _+_, _-_, _*_, _^_, _≤_, _<_};
 ghost use lib.ListN.{length, take, drop, replicate};
 ghost use lib.Seq.{sets};
-ghost use Rattle.definitions.specs.Fields.{le, bytes};
+ghost use Rattle.definitions.specs.Fields.{le, bytes, Bytes};
 
 fn wide(x: u8) -> usize
     ensures { λ r. ⌜ (r ≡ x) × (r < 256) ⌝ }
@@ -72,6 +72,17 @@ pub fn copy(from: &[u8], at: usize, n: usize, out: &mut [u8], to: usize)
         let a = at + i;
         let b = to + i;
         out[b] = from[a];
+        i += 1;
+    }
+}
+
+// Shows that the elements of a slice of bytes are below 256: a read gives that of one. Nothing of it is left in the compiled code.
+pub fn all_bytes(s: &[u8])
+    ensures { λ _. ⌜ Bytes (now (s .entry)) ⌝ }
+{
+    let mut i = 0;
+    while i < s.len() {
+        wide(s[i]);
         i += 1;
     }
 }

@@ -9,7 +9,18 @@ use lib.Dec.{leb}
 use lib.ListN.{length, take}
 use lib.Seq.{take-all, length-take-le}
 use Rattle.definitions.specs.Result.{err}
-use Rattle.definitions.specs.Answers.{verifySheet, refusal}
+use Rattle.definitions.specs.Answers.{Answer, verifySheet, lowerSheet, refusal}
+
+-- what gives one answer to every longer sheet
+cuts : (f : List ℕ → Answer) (a : Answer) → ((s : List ℕ) → 32768 < length s → f s ≡ a) → (s : List ℕ) (n : ℕ) → 32768 < n → f (take n s) ≡ f s
+cuts f a over s n h = go (leb (length s) n) refl
+  where
+    go : (t : Bool) → leb (length s) n ≡ t → f (take n s) ≡ f s
+    go true e = ap f (take-all n s (omega (arith, leb-true)))
+    go false e =
+        let more : n < length s = omega (arith, leb-false) in
+        let size : length (take n s) ≡ n = length-take-le n s (omega arith) in
+        over (take n s) (omega arith) ∙ sym (over s (omega arith))
 
 -- a longer sheet is answer 1
 pub long : (s : List ℕ) → 32768 < length s → verifySheet s ≡ err (refusal 1 [])
@@ -17,11 +28,11 @@ unfolding verifySheet
 long s h = rw (lt-leb (length s) 32768 h)
 
 pub cut : (s : List ℕ) (n : ℕ) → 32768 < n → verifySheet (take n s) ≡ verifySheet s
-cut s n h = go (leb (length s) n) refl
-  where
-    go : (t : Bool) → leb (length s) n ≡ t → verifySheet (take n s) ≡ verifySheet s
-    go true e = ap verifySheet (take-all n s (omega (arith, leb-true)))
-    go false e =
-        let more : n < length s = omega (arith, leb-false) in
-        let size : length (take n s) ≡ n = length-take-le n s (omega arith) in
-        long (take n s) (omega arith) ∙ sym (long s (omega arith))
+cut = cuts verifySheet (err (refusal 1 [])) long
+
+pub long-lowered : (room : ℕ) (s : List ℕ) → 32768 < length s → lowerSheet s room ≡ err (refusal 1 [])
+unfolding lowerSheet
+long-lowered room s h = rw (lt-leb (length s) 32768 h)
+
+pub cut-lowered : (room : ℕ) (s : List ℕ) (n : ℕ) → 32768 < n → lowerSheet (take n s) room ≡ lowerSheet s room
+cut-lowered room = cuts (λ (s : List ℕ). lowerSheet s room) (err (refusal 1 [])) (long-lowered room)

@@ -62,7 +62,7 @@ then-zeros n line out r h long e f =
     (sym (padded-is n line (omega arith) ∙ ap (λ (k : ℕ). line ++ drop k (replicate n 0)) size ∙ parts), (sym size, (omega arith, sym (length-take-le r out (omega arith)))))
 
 -- numbers that were told with their count, and zeros behind them
-take-padded : (n : ℕ) (l : List ℕ) → length l ≤ n → take (length l) (padded n l) ≡ l
+pub take-padded : (n : ℕ) (l : List ℕ) → length l ≤ n → take (length l) (padded n l) ≡ l
 take-padded n [] h = refl
 take-padded zero (x ∷ l) h = absurd (omega arith)
 take-padded (suc n) (x ∷ l) h = ap (λ (r : List ℕ). x ∷ r) (take-padded n l (omega arith))

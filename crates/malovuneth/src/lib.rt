@@ -1,8 +1,22 @@
 // The operations for C and Rust to call, in a static library. Each writes its answer's six numbers: 0 or the refusal's number, its details
-// in order, then zeros. C declares `void malovuneth_verify(const uint8_t *sheet, size_t length, size_t out[6])`.
+// in order, then zeros. C declares `void malovuneth_verify(const uint8_t *sheet, size_t length, size_t out[6])`; and lowering, which writes
+// a sheet too, `void malovuneth_lower(const uint8_t *sheet, size_t length, uint8_t *out, size_t room, size_t numbers[6])`.
 ghost use mathlib.Core.Path.{_≡_};
-ghost use Rattle.definitions.specs.Answers.{checkContract, numbersOf, padded, refuseForm, verifySheet};
+ghost use lib.ListN.{length};
+ghost use Rattle.definitions.specs.Answers.{checkContract, loweredNumbers, lowerSheet, numbersOf, outputOf, padded, refuseForm, verifySheet};
 ghost use Rattle.definitions.specs.ContractSheet.{refusal3};
+
+// Lowers the bytes of a contract sheet. The output gets the program sheet and then zeros, or zeros; the numbers are 0 and the sheet's
+// length, or the refusal's.
+#[no_mangle]
+pub extern "C" fn malovuneth_lower(sheet: &[u8], out: &mut [u8], numbers: &mut [usize; 6])
+    ensures { λ _. ⌜ now (numbers .exit) ≡ padded 6 (loweredNumbers (lowerSheet (now (sheet .entry)) (length (now (out .entry))))) ⌝ }
+    ensures { λ _. ⌜ now (out .exit) ≡ outputOf (lowerSheet (now (sheet .entry)) (length (now (out .entry)))) (length (now (out .entry))) ⌝ }
+{
+    let n = answers::lower_numbers(lower::lower(sheet, out));
+    let list = n.list;
+    *numbers = list;
+}
 
 // The verifier's answer to the bytes of a program sheet.
 #[no_mangle]

@@ -1,7 +1,8 @@
 // Reads sheets from standard input, each behind a byte that says what is asked and its length in four bytes, and prints the answer to each
-// as a line: `V` verifies a program sheet, `C` checks a contract sheet's length, form and limits, as lowering does before its walk.
+// as a line: `L` lowers a contract sheet with an output of 32,768 bytes, `V` verifies a program sheet, `C` checks a contract sheet's length,
+// form and limits, as lowering does before its walk.
 // tests/replay.sh makes the list that the program is run on, and the answers expected.
-// No contract can say which bytes are read or written: `lines::verify_line` and `lines::contract_line` have the contracts on the bytes.
+// No contract can say which bytes are read or written: `lines::lower_line`, `verify_line` and `contract_line` have the contracts on the bytes.
 ghost use mathlib.Core.Path.{_≡_};
 ghost use Prim.Native.Nat.{_≤_};
 ghost use lib.ListN.{length, take};
@@ -49,6 +50,21 @@ fn answer_line(asked: u8, sheet: &[u8], out: &mut [u8; 128]) -> usize
     }
 }
 
+// Prints the line of a contract sheet that is lowered.
+fn print_lowered(sheet: &[u8]) -> bool {
+    let mut out = [0u8; 32768];
+    let mut text = [0u8; 98307];
+    let k = lines::lower_line(sheet, &mut out, &mut text);
+    io::write_all(STDOUT_FILENO, &text[..k])
+}
+
+// Prints the line of the answer to anything else.
+fn print_answer(asked: u8, sheet: &[u8]) -> bool {
+    let mut text = [0u8; 128];
+    let k = answer_line(asked, sheet, &mut text);
+    io::write_all(STDOUT_FILENO, &text[..k])
+}
+
 // Reads one sheet, prints its line, and answers whether there was one.
 fn replay_one() -> bool {
     let head = read_head();
@@ -58,9 +74,10 @@ fn replay_one() -> bool {
     }
     let mut sheet = io::large_buffer();
     let got = read_sheet(n, &mut sheet);
-    let mut text = [0u8; 128];
-    let k = answer_line(head.asked, &sheet[..got], &mut text);
-    io::write_all(STDOUT_FILENO, &text[..k])
+    if head.asked == b'L' {
+        return print_lowered(&sheet[..got]);
+    }
+    print_answer(head.asked, &sheet[..got])
 }
 
 // A proved loop has to end, so it counts its turns down.

@@ -62,16 +62,16 @@ impl Items {
             structs: Vec::new(),
             functions: Vec::new(),
         };
-        for _ in 0..rng.below(5) {
+        for _ in 0..count(rng, 5, 256) {
             let field = items.field(rng);
             items.storage.push(field);
         }
-        for _ in 0..rng.below(4) {
-            let fields = (0..rng.below(5)).map(|_| items.field(rng)).collect();
+        for _ in 0..count(rng, 4, 64) {
+            let fields = (0..count(rng, 5, 64)).map(|_| items.field(rng)).collect();
             let name = items.name(rng);
             items.structs.push((name, fields));
         }
-        for _ in 0..rng.between(1, 4) {
+        for _ in 0..count(rng, 4, 63) + 1 {
             let signature = items.signature(rng);
             items.functions.push(signature);
         }
@@ -100,6 +100,15 @@ impl Items {
         (self.name(rng), self.type_name(rng))
     }
 
+    /// A parameter: more often than a field of a declared struct.
+    fn param(&self, rng: &mut Rng) -> (u16, u16) {
+        let (name, ty) = self.field(rng);
+        match !self.structs.is_empty() && rng.one_in(3) {
+            true => (name, self.structs[rng.below(self.structs.len())].0),
+            false => (name, ty),
+        }
+    }
+
     fn signature(&self, rng: &mut Rng) -> Signature {
         let count = match rng.one_in(12) {
             true => rng.between(14, 16),
@@ -107,7 +116,7 @@ impl Items {
         };
         Signature {
             name: self.name(rng),
-            params: (0..count).map(|_| self.field(rng)).collect(),
+            params: (0..count).map(|_| self.param(rng)).collect(),
             returns: (!rng.one_in(3)).then(|| self.type_name(rng)),
         }
     }
@@ -145,6 +154,14 @@ impl Items {
                 .collect(),
             ..build::contract(name, functions)
         }
+    }
+}
+
+/// How many of something: mostly fewer than `few`, rarely up to `most`.
+fn count(rng: &mut Rng, few: usize, most: usize) -> usize {
+    match rng.one_in(100) {
+        true => rng.below(most + 1),
+        false => rng.below(few),
     }
 }
 

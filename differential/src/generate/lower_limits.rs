@@ -1,7 +1,6 @@
 //! Contract sheets at each limit of document 01, just within and just past it.
 
-use super::nesting;
-use super::Case;
+use super::{nesting, overflow, Case};
 use crate::ast::{BinOp, Contract, Expr, Function, Stmt};
 use crate::build::*;
 use crate::sheet::{contract_write, SHEET_LIMIT};
@@ -74,7 +73,52 @@ fn counts() -> Vec<Contract> {
         functions: vec![with_params(count, vec![])],
         ..empty()
     }));
+    contracts.extend([63, 64, 65].map(used_functions));
+    contracts.extend([(64, 63), (64, 64), (64, 65), (63, 64), (65, 64)].map(used_structs));
+    contracts.extend([255, 256, 257].map(used_storage));
+    contracts.extend([15, 16, 17].map(used_params));
     contracts
+}
+
+/// Functions of which each calls the next, and two names the last.
+fn used_functions(count: u16) -> Contract {
+    let body = |i: u16| vec![Stmt::Expr(call(11 + (i + 1) % count, vec![]))];
+    let mut functions: Vec<Function> = (0..count - 1)
+        .map(|i| function(11 + i, Some(U64), body(i)))
+        .collect();
+    functions.push(function(11, Some(2), body(count - 1)));
+    contract(CONTRACT, functions)
+}
+
+/// Structs with many fields, of which each struct's last two are read.
+fn used_structs((count, of): (u16, u16)) -> Contract {
+    let structs = (0..count).map(|i| structure(100 + i, fields(of.into())));
+    let read = |i: u16, f: u16| Stmt::Expr(access(call(200 + i, vec![]), 30 + f));
+    let body = (0..count.min(62)).flat_map(|i| [read(i, of - 2), read(i, of - 1)]);
+    let mut functions = vec![function(F, None, body.collect())];
+    functions.extend((0..count.min(62)).map(|i| function(200 + i, Some(100 + i), vec![])));
+    Contract {
+        structs: structs.collect(),
+        ..contract(CONTRACT, functions)
+    }
+}
+
+/// Storage fields, all read and written.
+fn used_storage(count: usize) -> Contract {
+    let used = |i: usize| storage_write(30 + i as u16, storage_read(30 + (count - 1 - i) as u16));
+    Contract {
+        storage: fields(count),
+        ..single((0..count).map(used).collect())
+    }
+}
+
+/// Parameters, all read and written.
+fn used_params(count: usize) -> Contract {
+    let used = |i: usize| assign(30 + i as u16, ident(30 + (count - 1 - i) as u16));
+    contract(
+        CONTRACT,
+        vec![with_params(count, (0..count).map(used).collect())],
+    )
 }
 
 /// Arguments of calls and events, lowered, ignored or skipped.
@@ -223,19 +267,12 @@ fn rooms() -> Vec<Case> {
     cases
 }
 
-/// A contract whose program sheet has the given even length: an Emit takes 10
-/// bytes of it, a storage read 16.
+/// A contract whose program sheet has the given even length.
 fn emitting(length: usize) -> Contract {
     // The program, one function, its block, its Return and its name.
-    let mut rest = length - (6 + 18 + 8 + 8 + 10);
-    let mut body = Vec::new();
-    while !rest.is_multiple_of(10) {
-        body.push(Stmt::Expr(storage_read(X)));
-        rest -= 16;
-    }
-    body.extend(vec![emit(X, vec![]); rest / 10]);
+    let rest = length - (6 + 18 + 8 + 8 + 10);
     Contract {
         storage: vec![field(X, U64)],
-        ..single(body)
+        ..single(overflow::filler(rest))
     }
 }

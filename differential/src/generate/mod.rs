@@ -1,6 +1,8 @@
 //! Cases: sheets, and for lowering the length of the lent output.
 
+pub mod bodies;
 mod body;
+mod calls;
 mod catalogue;
 mod contract;
 mod damage;
@@ -9,8 +11,10 @@ mod expr;
 mod items;
 mod lower_limits;
 pub mod nesting;
+mod overflow;
 mod program;
 pub mod rng;
+mod rooms;
 mod rules;
 mod verify_limits;
 
@@ -44,6 +48,8 @@ impl Case {
 pub fn fixed_lower_cases() -> Vec<Case> {
     let mut cases = rule_cases();
     cases.extend(lower_limits::cases());
+    cases.extend(overflow::cases());
+    cases.extend(rooms::cases());
     let all_kinds = contract_write::contract(&contract_of_all_kinds());
     cases.extend(systematic(&all_kinds, kind::CONTRACT));
     cases
@@ -61,7 +67,8 @@ pub fn fixed_verify_cases() -> Vec<Case> {
 }
 
 fn rule_cases() -> Vec<Case> {
-    let contracts = rules::contracts();
+    let mut contracts = rules::contracts();
+    contracts.extend(calls::contracts());
     let sheets = contracts.iter().map(contract_write::contract);
     sheets.map(Case::of).collect()
 }
@@ -93,7 +100,7 @@ pub fn lower_case(seed: u64, index: u64) -> Case {
         _ => contract::contract(rng, style),
     };
     let mut sheet = contract_write::contract(&contract);
-    if rng.one_in(2) {
+    if rng.one_in(3) {
         sheet = damage::some(rng, &sheet, kind::CONTRACT);
     }
     let room = match rng.one_in(8) {
@@ -105,9 +112,12 @@ pub fn lower_case(seed: u64, index: u64) -> Case {
 
 /// A length about that of the finished sheet, or any other.
 fn room(rng: &mut Rng, sheet: &[u8]) -> usize {
-    let other = rng.pick(&[0, 1, 5, 6, 50, 1_000, SHEET_LIMIT - 1, 40_000]);
+    let other = match rng.one_in(2) {
+        true => rng.below(rooms::SMALL + 1),
+        false => rng.pick(&[500, 1_000, 2_000, 5_000, SHEET_LIMIT - 1, 40_000]),
+    };
     match finished(sheet) {
-        Some(finished) if !rng.one_in(6) => {
+        Some(finished) if !rng.one_in(3) => {
             (finished.len() + rng.pick(&[1, 2, 2, 2, 3, 40])).saturating_sub(2)
         }
         _ => other,

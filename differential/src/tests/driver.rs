@@ -6,16 +6,32 @@ use crate::oracle::{lower_answer, verify_answer, Answer};
 use crate::shrink::shrink;
 use crate::subject::{SelfSubject, Subject};
 
-/// Verifies every program that it would refuse with 46, and leaves a byte of
-/// the output when it refuses with 11.
-struct Faulty;
+/// Verifies every program that it would refuse with 46.
+struct Lenient;
 
-impl Subject for Faulty {
+impl Subject for Lenient {
     fn verify(&self, sheet: &[u8]) -> Answer {
         match verify_answer(sheet) {
             Answer::Refused { number: 46, .. } => Answer::Accepted(vec![]),
             answer => answer,
         }
+    }
+
+    fn check(&self, sheet: &[u8]) -> Answer {
+        SelfSubject.check(sheet)
+    }
+
+    fn lower(&self, sheet: &[u8], out: &mut [u8]) -> Answer {
+        SelfSubject.lower(sheet, out)
+    }
+}
+
+/// Leaves a byte of the output when it refuses with 11.
+struct Leaving;
+
+impl Subject for Leaving {
+    fn verify(&self, sheet: &[u8]) -> Answer {
+        verify_answer(sheet)
     }
 
     fn check(&self, sheet: &[u8]) -> Answer {
@@ -34,8 +50,8 @@ impl Subject for Faulty {
 }
 
 /// The first random case that differs, shrunk.
-fn first_difference(task: Task) -> Case {
-    let differs = |case: &Case| compare(&Faulty, task, case).is_err();
+fn first_difference(subject: &dyn Subject, task: Task) -> Case {
+    let differs = |case: &Case| compare(subject, task, case).is_err();
     let mut cases = (0..).map(|index| task.case(3, index));
     let found = cases.find(|case| differs(case)).unwrap();
     shrink(found, task.root(), &mut |case| differs(case))
@@ -43,15 +59,25 @@ fn first_difference(task: Task) -> Case {
 
 #[test]
 fn a_wrong_answer_is_found_and_shrunk() {
-    let small = first_difference(Task::Verify);
+    let small = first_difference(&Lenient, Task::Verify);
     assert_eq!(verify_answer(&small.sheet).number(), 46);
     assert!(small.sheet.len() <= 80, "{} bytes", small.sheet.len());
 }
 
 #[test]
 fn a_wrong_output_is_found_and_shrunk() {
-    let small = first_difference(Task::Lower);
+    let small = first_difference(&Leaving, Task::Lower);
     assert_eq!(lower_answer(&small.sheet, small.room).number(), 11);
+    assert!(small.sheet.len() <= 60, "{} bytes", small.sheet.len());
+}
+
+#[test]
+fn a_wrong_verifying_of_what_was_lowered_is_found_and_shrunk() {
+    let small = first_difference(&Lenient, Task::Lower);
+    let Answer::Accepted(program) = lower_answer(&small.sheet, small.room) else {
+        panic!("not lowered");
+    };
+    assert_eq!(verify_answer(&program).number(), 46);
     assert!(small.sheet.len() <= 60, "{} bytes", small.sheet.len());
 }
 
@@ -60,6 +86,7 @@ fn every_number_occurs() {
     for (task, count) in [(Task::Lower, 3_000), (Task::Verify, 3_000)] {
         let mut run = Run::new(&SelfSubject, task);
         assert!(run.random(1, count));
+        assert!(run.all_numbers());
         let numbers: Vec<u16> = run.histogram.keys().copied().collect();
         assert_eq!(numbers, task.numbers());
     }

@@ -1,10 +1,10 @@
-//! The sheets and calls that the bench measures: the archive's and the Rust's,
-//! side by side.
+//! Verifying a program sheet, and the form of a contract sheet.
 
 use std::hint::black_box;
 
+use super::{add, call, Maker, Row};
 use crate::archive;
-use crate::ast::{BinOp, Contract, Expr, Function, Stmt};
+use crate::ast::{BinOp, Contract, Function, Stmt};
 use crate::build::*;
 use crate::ir::{lower, verify, IrProgram};
 use crate::oracle::{lower_answer, Answer};
@@ -28,10 +28,6 @@ pub enum Shape {
     One,
     /// A function for each part of the code.
     Many,
-}
-
-fn add(left: Expr, right: Expr) -> Expr {
-    binary(left, BinOp::Add, right)
 }
 
 /// One part of a function's code: some twenty instructions and a branch.
@@ -81,21 +77,6 @@ fn longest(shape: Shape, length: usize, sheet: fn(&Contract) -> Option<Vec<u8>>)
     contracts.take_while(fits).last().expect("a part fits")
 }
 
-/// One line of the table.
-pub struct Row {
-    pub label: String,
-    pub bytes: usize,
-    /// The archive's call, then the Rust's: alone, then with reading the sheet.
-    pub calls: Vec<Box<dyn Fn()>>,
-}
-
-/// A call whose result is made and not looked at.
-fn call<T: 'static>(call: impl Fn() -> T + 'static) -> Box<dyn Fn()> {
-    Box::new(move || {
-        black_box(call());
-    })
-}
-
 fn read(sheet: &[u8]) -> IrProgram {
     program_read::program(&parse::parse(sheet, kind::PROGRAM))
 }
@@ -108,6 +89,7 @@ fn verifying(label: String, sheet: Vec<u8>) -> Row {
     Row {
         label,
         bytes: sheet.len(),
+        gives: "0".into(),
         calls: vec![
             call(move || archive::verify(black_box(&first))),
             call(move || verify::verify_program(black_box(&program))),
@@ -128,6 +110,7 @@ fn form(label: String, contract: Contract) -> Row {
     Row {
         label,
         bytes: sheet.len(),
+        gives: "0".into(),
         calls: vec![
             call(move || archive::contract_form(black_box(&sheet))),
             call(move || lower_by_rust(black_box(&contract))),
@@ -135,25 +118,30 @@ fn form(label: String, contract: Contract) -> Row {
     }
 }
 
-/// The rows of the table.
-pub fn rows() -> Vec<Row> {
-    let small = function_of(
-        &[(P, U64)],
-        function(FUNCTION, Some(U64), vec![returning(ident(P))]),
-    );
-    let small = lowered(&contract(CONTRACT, vec![small])).expect("accepted");
-    let mut rows = vec![verifying("verify, 1 function".into(), small)];
-    for (shape, functions) in [(Shape::One, "1 function"), (Shape::Many, "many functions")] {
+/// A small program, then programs of some lengths of both shapes, then the
+/// form of contracts.
+pub fn rows() -> Vec<Maker> {
+    let mut rows: Vec<Maker> = vec![Box::new(|| {
+        let body = vec![returning(ident(P))];
+        let small = function_of(&[(P, U64)], function(FUNCTION, Some(U64), body));
+        let sheet = lowered(&contract(CONTRACT, vec![small])).expect("accepted");
+        verifying("verify, 1 function".into(), sheet)
+    })];
+    let shapes = [(Shape::One, "1 function"), (Shape::Many, "many functions")];
+    for (shape, functions) in shapes {
         for length in [3_000, 12_000, 30_000] {
-            let sheet = lowered(&longest(shape, length, lowered)).expect("accepted");
-            rows.push(verifying(format!("verify, {functions}"), sheet));
+            rows.push(Box::new(move || {
+                let sheet = lowered(&longest(shape, length, lowered)).expect("accepted");
+                verifying(format!("verify, {functions}"), sheet)
+            }));
         }
     }
-    for (shape, functions) in [(Shape::One, "1 function"), (Shape::Many, "many functions")] {
-        let contract = longest(shape, 12_000, |contract| {
-            Some(contract_write::contract(contract))
-        });
-        rows.push(form(format!("form, {functions}"), contract));
+    for (shape, functions) in shapes {
+        rows.push(Box::new(move || {
+            let sheet = |contract: &Contract| Some(contract_write::contract(contract));
+            let contract = longest(shape, 12_000, sheet);
+            form(format!("form, {functions}"), contract)
+        }));
     }
     rows
 }

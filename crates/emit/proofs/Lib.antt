@@ -1,0 +1,4 @@
+pub mod Appending
+pub mod Written
+pub mod Listed
+pub mod Codes

@@ -1,0 +1,17 @@
+-- `emit::emit_jump`: the bytes are those of Jump. Assumes nothing.
+use mathlib.Core.Path.{refl}
+use borrow.Author.Needs.{needs}
+use Rattle.definitions.specs.Fields.{bytes}
+use Rattle.definitions.specs.Ir.{Terminator}
+use Rattle.definitions.specs.Records.{writeTree, writeTrees, writeRecord, writeValues, writeValue, writeItem}
+use Rattle.emit.specs.Bytes.{recordBytes}
+use Rattle.emit.proofs.Written.{closed}
+use Rattle.emit.proofs.emit_jump.Statement.{statement}
+use Rattle.emit.proofs.emit_jump.Tie as tie
+
+returns : tie.Need-returns
+unfolding recordBytes bytes writeTree writeTrees writeRecord writeValues writeValue writeItem
+returns c = let a = c .before .before .args in closed (Terminator.Jump (a .target .0)) (c .put-record .ensures) refl
+
+pub emit-jump-spec : {M : Type 1} → statement M
+emit-jump-spec = tie.close (tie.spec (λ c κs. search needs) returns)

@@ -1,0 +1,4 @@
+pub mod Answered
+pub mod CallSteps
+pub mod Called
+pub mod ExprSteps

@@ -1,0 +1,2 @@
+pub mod LocalTypes
+pub mod Terminated

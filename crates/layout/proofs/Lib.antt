@@ -1,0 +1,5 @@
+pub mod NameRows
+pub mod NamesWalk
+pub mod Pieces
+pub mod Storing
+pub mod Wholes

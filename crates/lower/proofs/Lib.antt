@@ -1,0 +1,4 @@
+pub mod Answering
+pub mod Begin
+pub mod Fill
+pub mod Placing

@@ -1,0 +1,26 @@
+-- `malovuneth::malovuneth_lower`: the numbers of what `lower` answers, and its output. Assumes nothing.
+use mathlib.Core.Path.{ap, _∙_}
+use Prim.Native.Nat.{ℕ}
+use Rattle.definitions.specs.Result.{Result}
+use Rattle.definitions.specs.Answers.{Refusal, lengthNumbers, padded}
+use borrow.Author.Needs.{needs}
+use Rattle.malovuneth.proofs.malovuneth_lower.Statement.{statement}
+use Rattle.malovuneth.proofs.malovuneth_lower.Tie as tie
+
+lower-requires : tie.Need-lower-requires
+lower-requires c κs = search needs
+
+lower-numbers-requires : tie.Need-lower-numbers-requires
+lower-numbers-requires c κs = search needs
+
+same-length : tie.Need-same-length
+same-length c = search needs
+
+returns : tie.Need-returns
+returns c =
+    let lowered = c .before .before .before .before .lower .ensures in
+    (c .before .lower-numbers .ensures .1 .0 ∙ ap (λ (r : Result Refusal ℕ). padded 6 (lengthNumbers r)) (lowered .0), lowered .1 .0)
+
+pub malovuneth-lower-spec : {M : Type 1} → statement M
+malovuneth-lower-spec =
+    tie.close (tie.spec lower-requires lower-numbers-requires same-length returns)

@@ -1,0 +1,5 @@
+mod Firsts
+mod Lasts
+mod Packed
+mod Reading
+mod Symbolic

@@ -1,0 +1,97 @@
+-- `names::symbols::last_named`: the walk goes on from the record at `at`. Assumes nothing.
+use mathlib.Core.Path.{ap, sym, _∙_}
+use Prim.Native.Nat.{ℕ, _+_, _-_}
+use mathlib.Core.Logic.{⊎-elim}
+use native.Mathlib.Omega.{arith}
+use borrow.Author.Needs.{needs}
+use lib.ListN.{length}
+use Rattle.names.proofs.Lasts.{Walking, begun, walked, top-at, other-kind, has-name, has-not, this-kind, moved}
+use Rattle.names.proofs.symbols.last_named.Statement.{statement}
+use Rattle.names.proofs.symbols.last_named.Tie as tie
+
+abbrev Inv-loop : tie.InvT-loop
+Inv-loop s kind name found₀ position₀ at₀ found position at = Walking s kind (name .0) found position at
+
+abbrev μ-loop : tie.MeasureT-loop
+μ-loop s kind name found₀ position₀ at₀ found position at = length s - at
+
+loop-holds : tie.Need-loop-holds Inv-loop μ-loop
+loop-holds c = begun (c .before .args .s .now) (c .before .args .kind) (c .before .args .name .0) (c .before .pre .0)
+
+add-read : tie.Need-add-read Inv-loop μ-loop
+add-read c = let P = top-at (c .before .loop .inv) (c .loop-test .taken) in omega (arith, P .long, P .inside)
+
+read-requires : tie.Need-read-requires Inv-loop μ-loop
+read-requires c κs =
+    let P = top-at (c .before .loop .inv) (c .loop-test .taken) in
+    (omega (arith, P .long, P .inside), omega arith)
+
+add-read-u16 : tie.Need-add-read-u16 Inv-loop μ-loop
+add-read-u16 c =
+    let P = top-at (c .before .before .before .loop .inv) (c .before .before .loop-test .taken) in
+    omega (arith, P .long, P .inside)
+
+read-u16-requires : tie.Need-read-u16-requires Inv-loop μ-loop
+read-u16-requires c κs =
+    let P = top-at (c .before .before .before .loop .inv) (c .before .before .loop-test .taken) in
+    omega (arith, P .long, P .inside)
+
+or-earlier-requires : tie.Need-or-earlier-requires Inv-loop μ-loop
+or-earlier-requires c κs = search needs
+
+add-position : tie.Need-add-position Inv-loop μ-loop
+add-position c =
+    let P = top-at (c .before .before .before .before .before .before .before .loop .inv) (c .before .before .before .before .before .before .loop-test .taken) in
+    omega (arith, c .before .before .before .before .before .before .before .loop .inv .low, P .long, P .inside)
+
+read-requires-2 : tie.Need-read-requires-2 Inv-loop μ-loop
+read-requires-2 c κs =
+    let P = top-at (c .before .before .before .loop .inv) (c .before .before .loop-test .taken) in
+    (omega (arith, P .long, P .inside), omega arith)
+
+add-at : tie.Need-add-at Inv-loop μ-loop
+add-at c =
+    let P = top-at (c .before .before .before .before .loop .inv) (c .before .before .before .loop-test .taken) in
+    omega (arith, c .read2 .ensures .0, P .inside)
+
+loop-less : tie.Need-loop-less Inv-loop μ-loop
+loop-less c =
+    let P = top-at (c .before .before .before .before .loop .inv) (c .before .before .before .loop-test .taken) in
+    omega (arith, c .read2 .ensures .0, P .long, P .inside)
+
+loop-again : tie.Need-loop-again Inv-loop μ-loop
+loop-again c =
+    let b = c .before .before .before .before in
+    let W = b .loop .inv in
+    let l = c .before .before .before .loop-test .taken in
+    let r = c .before .before .read .ensures .0 in
+    rw (ap (λ (x : ℕ). b .loop .at + x) (c .read2 .ensures .0))
+    (⊎-elim
+    (λ w.
+    let e = sym r ∙ w .0 .taken in
+    let t = ⊎-elim (λ v. has-name W l e (sym (w .1 .ensures) ∙ v .0 .taken) (v .1)) (λ v. has-not W l (λ z. v .0 .left (w .1 .ensures ∙ z)) (v .1)) (w .3 .came) in
+    moved (w .5 ∙ w .4 .ensures) (w .6) (this-kind W l (w .3 .this) e t))
+    (λ w. moved (w .1) (w .2) (other-kind W l (λ z. w .0 .left (r ∙ z))))
+    (c .before .if1 .came))
+
+returns : tie.Need-returns Inv-loop μ-loop
+returns c = walked (c .before .loop .inv) (c .loop-test .left)
+
+pub last-named-spec : {M : Type 1} → statement M
+last-named-spec =
+    tie.close
+    (tie.spec
+    Inv-loop
+    μ-loop
+    loop-holds
+    add-read
+    read-requires
+    add-read-u16
+    read-u16-requires
+    or-earlier-requires
+    add-position
+    read-requires-2
+    add-at
+    loop-less
+    loop-again
+    returns)

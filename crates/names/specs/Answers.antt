@@ -1,0 +1,106 @@
+-- The code's answers in the words of the definitions. Assumes nothing: these are definitions.
+use Prim.Native.Nat.{ℕ, _*_}
+use mathlib.Core.List.{List}
+use mathlib.Core.Option.{Option, none, some}
+use Rattle.definitions.specs.Result.{err, ok, _>>=_, _>>_, okOrElse}
+use Rattle.definitions.specs.Ast.{StorageField, Function, Contract}
+use Rattle.definitions.specs.Ir as defs
+use Rattle.definitions.specs.Lower as lowering
+use Rattle.definitions.specs.Lower.{Lowering, storageNamed, structNamed, fieldPosition, structOf}
+use Rattle.definitions.specs.Records.{Tree, node, numAt}
+use Rattle.definitions.specs.Sema as sema
+use Rattle.ir.specs.Types.{asType}
+use Rattle.nodes.specs.Ready.{treeAt, Ready}
+use Rattle.nodes.proofs.Tops.{topClass}
+use Rattle.names.specs.declared.LoweringError.{LoweringError}
+use Rattle.names.specs.declared.LoweringError.the-variants as code
+use Rattle.names.specs.declared.Held.{Held}
+use Rattle.names.specs.declared.Held.the-variants as held
+use Rattle.names.specs.declared.Found.{Found}
+use Rattle.names.specs.declared.Found.the-variants as found
+use Rattle.names.specs.declared.Slot.{Slot}
+use Rattle.names.specs.declared.Slot.the-variants as slot
+use Rattle.names.specs.declared.Position.{Position}
+use Rattle.names.specs.declared.Position.the-variants as position
+use Rattle.names.specs.declared.Offset.{Offset}
+use Rattle.names.specs.declared.Offset.the-variants as offset
+use Rattle.names.specs.declared.Signature.{Signature}
+use Rattle.names.specs.declared.Signature.the-variants as signature
+
+abbrev pub errorOf : LoweringError → lowering.LoweringError
+errorOf (code.UnresolvedType n) = lowering.LoweringError.UnresolvedType (n .0)
+errorOf (code.UndefinedVariable n) = lowering.LoweringError.UndefinedVariable (n .0)
+errorOf (code.UndefinedFunction n) = lowering.LoweringError.UndefinedFunction (n .0)
+errorOf code.FieldOfNonStruct = lowering.LoweringError.FieldOfNonStruct
+errorOf (code.NoSuchField s f) = lowering.LoweringError.NoSuchField (s .0) (f .0)
+errorOf code.StructLiteral = lowering.LoweringError.StructLiteral
+errorOf code.MappingRead = lowering.LoweringError.MappingRead
+errorOf code.MappingWrite = lowering.LoweringError.MappingWrite
+errorOf code.VoidAsValue = lowering.LoweringError.VoidAsValue
+errorOf code.PoseidonArguments = lowering.LoweringError.PoseidonArguments
+errorOf code.MerkleProof = lowering.LoweringError.MerkleProof
+errorOf (code.TooManyBlocksOrLocals f) = lowering.LoweringError.TooManyBlocksOrLocals (f .0)
+
+-- a name that is held: its local and type
+abbrev pub heldOf : Held → Option (ℕ × defs.IrType)
+heldOf (held.Local l t) = some (l .0, asType t)
+heldOf held.NotHeld = none
+
+-- a record of the contract: its position among those of its kind, and the record
+abbrev pub foundIn : List ℕ → Found → Option (ℕ × Tree)
+foundIn s (found.At i p) = some (i, treeAt s p)
+foundIn s found.Missing = none
+
+-- a record of the kind k that was found stands at its place
+abbrev pub Placed : List ℕ → ℕ → Found → Type 0
+Placed s k (found.At i p) = Ready (topClass k) s p 39
+Placed s k found.Missing = Unit {0}
+
+-- what a later record gave, or else what the earlier ones gave
+abbrev pub orEarlier : Found → Found → Found
+orEarlier (found.At i p) e = found.At i p
+orEarlier found.Missing e = e
+
+-- the name of a storage field, a struct or a function
+abbrev pub treeName : Tree → ℕ
+treeName (node at k v ts) = numAt 0 v
+
+abbrev pub slotOf : Slot → Option ℕ
+slotOf (slot.At i) = some i
+slotOf slot.Undeclared = none
+
+abbrev positionIn : Option (ℕ × StorageField) → Option ℕ
+positionIn none = none
+positionIn (some p) = some (p .0)
+
+-- the slot of a storage field
+unfoldable pub slotNamed : Contract → ℕ → Option ℕ
+slotNamed K n = positionIn (storageNamed K n)
+
+abbrev pub positionOf : Position → Option ℕ
+positionOf (position.At i) = some i
+positionOf position.Missing = none
+
+-- the offset of the field f in a value of type ty
+unfoldable pub fieldOffset : Contract → defs.IrType → ℕ → Lowering ℕ
+fieldOffset K ty f = do
+  s ← okOrElse (structOf ty) lowering.LoweringError.FieldOfNonStruct
+  (_, decl) ← okOrElse (structNamed K s) (lowering.LoweringError.UnresolvedType s)
+  i ← okOrElse (fieldPosition (decl .fields) f) (lowering.LoweringError.NoSuchField s f)
+  ok (i * 8)
+
+abbrev pub offsetOf : Offset → Lowering ℕ
+offsetOf (offset.At n) = ok n
+offsetOf (offset.Refused e) = err (errorOf e)
+
+-- a function's id and the type of a call of it
+abbrev pub signatureIn : Option (ℕ × Function) → Option (ℕ × defs.IrType)
+signatureIn none = none
+signatureIn (some p) = some (p .0, sema.returnType (p .1 .returnType))
+
+unfoldable pub signatureNamed : Contract → ℕ → Option (ℕ × defs.IrType)
+signatureNamed K n = signatureIn (sema.functionNamed K n)
+
+abbrev pub signatureOf : Signature → Option (ℕ × defs.IrType)
+signatureOf (signature.At f t) = some (f .0, asType t)
+signatureOf signature.Undefined = none

@@ -1,0 +1,67 @@
+// What a name stands for: a type, a local that is held, a storage field, a struct's field, a function.
+use ir::FunctionId;
+use ir::IrType;
+use ir::LocalId;
+use ir::Name;
+
+pub mod entries; // the names that are held
+pub mod symbols; // storage fields, structs and functions by name
+pub mod types; // types by name
+
+// The errors of lowering (`LoweringError`); the Rust's `UnsupportedNode` is told apart by its text.
+pub enum LoweringError {
+    UnresolvedType(Name),
+    UndefinedVariable(Name),
+    UndefinedFunction(Name),
+    FieldOfNonStruct,
+    NoSuchField(Name, Name),
+    StructLiteral,
+    MappingRead,
+    MappingWrite,
+    VoidAsValue,
+    PoseidonArguments,
+    MerkleProof,
+    TooManyBlocksOrLocals(FunctionId),
+}
+
+// A name's local and type, if it is held.
+pub enum Held {
+    Local(LocalId, IrType),
+    NotHeld,
+}
+
+// A record of the contract: its position among those of its kind, and its place.
+pub enum Found {
+    At(usize, usize),
+    Missing,
+}
+
+// A storage field's slot.
+pub enum Slot {
+    At(usize),
+    Undeclared,
+}
+
+// A struct's field, by position.
+pub enum Position {
+    At(usize),
+    Missing,
+}
+
+// A field's offset in bytes, or why there is none.
+pub enum Offset {
+    At(usize),
+    Refused(LoweringError),
+}
+
+// A function's id and the type of a call of it.
+pub enum Signature {
+    At(FunctionId, IrType),
+    Undefined,
+}
+
+// The names that are held, newest last: a number for each (`entries::entry`).
+pub struct Scopes {
+    pub entries: [u64; 256],
+    pub count: usize,
+}

@@ -1,0 +1,4 @@
+pub mod Children
+pub mod Exprs
+pub mod Stmts
+pub mod Tops

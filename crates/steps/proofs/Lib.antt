@@ -1,0 +1,4 @@
+pub mod ArgSteps
+pub mod ControlSteps
+pub mod FlowSteps
+pub mod SimpleSteps

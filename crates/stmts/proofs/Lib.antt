@@ -1,0 +1,2 @@
+pub mod StmtParts
+pub mod StmtSteps

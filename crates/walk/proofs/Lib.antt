@@ -1,0 +1,9 @@
+pub mod Parts
+pub mod Prims
+pub mod Tied
+pub mod Related
+pub mod Expressions
+pub mod Steps
+pub mod Statements
+pub mod Laid
+pub mod Functions

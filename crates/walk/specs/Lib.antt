@@ -1,0 +1,4 @@
+pub mod Log
+pub mod Exprs
+pub mod Stmts
+pub mod Layout

@@ -1,0 +1,1 @@
+// No code: definitions of lowering into a log (specs), shown to be the definitions' lowering (proofs).
