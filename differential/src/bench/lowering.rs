@@ -147,10 +147,10 @@ fn small() -> Contract {
     }
 }
 
-/// Adds structs of 50 fields and storage fields, before those that are used.
+/// Adds structs of 55 fields and storage fields, before those that are used.
 fn with_declarations(mut contract: Contract, structs: u16, storage: u16) -> Contract {
     let fields = |count| (0..count).map(|i| field(MORE + i, U64));
-    let more = (0..structs).map(|i| structure(MORE + i, fields(50).collect()));
+    let more = (0..structs).map(|i| structure(MORE + i, fields(55).collect()));
     contract.structs.splice(0..0, more);
     contract.storage.splice(0..0, fields(storage));
     contract
@@ -166,14 +166,14 @@ fn maker(label: String, contract: impl Fn() -> Contract + 'static) -> Maker {
 pub fn sizes() -> Vec<Maker> {
     let mixed = |length| longest(length, |parts| of_parts(Shape::Mixed, parts));
     let with_more = || {
-        let parts = |parts| with_declarations(of_parts(Shape::Mixed, parts), 60, 200);
+        let parts = |parts| with_declarations(of_parts(Shape::Mixed, parts), 63, 254);
         longest(30_000, parts)
     };
     vec![
         maker("1 function".into(), small),
         maker("mixed".into(), move || mixed(3_000)),
         maker("mixed".into(), move || mixed(12_000)),
-        maker("mixed, 61 structs, 202 storage fields".into(), with_more),
+        maker("mixed, 64 structs, 256 storage fields".into(), with_more),
         maker("mixed, refused".into(), move || mixed(30_000)),
     ]
 }
@@ -186,7 +186,7 @@ pub fn growth() -> Vec<Maker> {
     ];
     let mut rows = Vec::new();
     for (shape, label) in shapes {
-        for length in [1_000, 2_000, 4_000, 8_000, 12_000, 16_000, 24_000, 30_000] {
+        for length in [1_100, 2_000, 4_000, 8_000, 12_000, 16_000, 24_000, 30_000] {
             rows.push(maker(label.into(), move || {
                 longest(length, |parts| of_parts(shape, parts))
             }));
@@ -237,7 +237,12 @@ fn calls(functions: u16) -> Contract {
 }
 
 fn field_reads(structs: u16, fields: u16) -> Contract {
-    let declared = |i| structure(MORE + i, (0..fields).map(|i| field(MORE + i, U64)).collect());
+    let declared = |i| {
+        structure(
+            MORE + i,
+            (0..fields).map(|i| field(MORE + i, U64)).collect(),
+        )
+    };
     let params: Vec<(u16, u16)> = (0..structs.min(16)).map(|i| (P + i, MORE + i)).collect();
     let read = |i: u16| access(ident(P + i % structs.min(16)), MORE + i % fields);
     let body = (0..USES).map(|i| Stmt::Expr(read(i))).collect();

@@ -80,9 +80,8 @@ fn calls_cells(times: &[f64], counts: [Option<f64>; 2]) -> Vec<String> {
 fn growth_cells(bytes: usize, times: &[f64], counts: [Option<f64>; 2]) -> Vec<String> {
     let bytes = bytes as f64;
     let nanos = |time: f64| format!("{:.2} ns", time * 1e9 / bytes);
-    let each = |count: Option<f64>| {
-        count.map_or("-".to_string(), |count| format!("{:.1}", count / bytes))
-    };
+    let each =
+        |count: Option<f64>| count.map_or("-".to_string(), |count| format!("{:.1}", count / bytes));
     vec![
         micros(times[0]),
         nanos(times[0]),

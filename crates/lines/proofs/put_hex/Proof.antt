@@ -46,7 +46,7 @@ slice-write-text-2 : tie.Need-slice-write-text-2 Inv-loop μ-loop
 slice-write-text-2 c = simp length-set (omega arith)
 
 hex-digit-requires-2 : tie.Need-hex-digit-requires-2 Inv-loop μ-loop
-hex-digit-requires-2 c κs = search needs
+hex-digit-requires-2 c κs = omega (arith, c .before .shared-slice-known2 .given (c .before .before .before .loop .i))
 
 slice-write-text-3 : tie.Need-slice-write-text-3 Inv-loop μ-loop
 slice-write-text-3 c = simp length-set (omega arith)
