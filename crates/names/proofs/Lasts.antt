@@ -4,7 +4,7 @@ use mathlib.Core.Path.{_≡_, refl, ap, sym, _∙_, subst}
 use mathlib.Core.Bool.{Bool, true, false}
 use mathlib.Core.List.{List, [], _∷_, map}
 use mathlib.Core.Option.{Option, none, some}
-use Prim.Native.Nat.{ℕ, suc, _+_, _≤_, _<_}
+use Prim.Native.Nat.{ℕ, suc, _+_, _*_, _/_, _%_, _≤_, _<_}
 use native.Mathlib.Numerals.{add-one}
 use native.Mathlib.Omega.{arith}
 use lib.Dec.{leb, eqb}
@@ -21,7 +21,7 @@ use Rattle.nodes.specs.Ready.{Checked, treeAt}
 use Rattle.nodes.proofs.Tops.{TopKind, mostOf, Tops, Top, next-top, ContractAt, contract-at, at-most, gather-here, gather-past}
 use Rattle.names.specs.declared.Found.{Found}
 use Rattle.names.specs.declared.Found.the-variants as found
-use Rattle.names.specs.Answers.{foundIn, orEarlier, Placed, treeName}
+use Rattle.names.specs.Answers.{foundIn, foundOf, orEarlier, Placed, treeName}
 
 -- the records of a kind from a place on
 abbrev pub these : List ℕ → (kind at : ℕ) → List Tree
@@ -38,7 +38,7 @@ or-none none = refl
 -- `position` records of the kind came before `at`, and the last of them that has the name is f
 pub record Walking (s : List ℕ) (kind n : ℕ) (f : Found) (position at : ℕ) : Type 0 where
   pub tops : Tops s at
-  pub low : position ≤ at
+  pub low : position + 8 ≤ at
   pub is : or (lastNamed treeName position (these s kind at) n) (foundIn s f) ≡ lastNamed treeName 0 (gather kind kind (λ (t : Tree). t) (childrenOf s 0)) n
   pub placed : Placed s kind f
 
@@ -106,6 +106,18 @@ module _ {s : List ℕ} {kind n position at : ℕ} {f : Found} (W : Walking s ki
         is = rw add-one (later-first s o b (position, treeAt s at) this f (t .0) ∙ (ap (λ (x : ℕ). or (orThis o (eqb x n) (position, treeAt s at)) (foundIn s f)) (sym (P .name)) ∙ (ap (λ (ts : List Tree). or (lastNamed treeName position ts n) (foundIn s f)) (sym r) ∙ W .is)));
         placed = placed-first s kind this f (t .1) (W .placed);
       }
+
+-- WHAT WAS FOUND, as one number
+pub coded : (at position : ℕ) → 8 ≤ at → position < 65536 → foundOf (at * 65536 + position) ≡ found.At position at
+unfolding foundOf
+coded at position h l =
+    let r : (at * 65536 + position) % 65536 ≡ position = omega arith in
+    let q : (at * 65536 + position) / 65536 ≡ at = omega arith in
+    rw (ne-eqb (at * 65536 + position) 0 (λ e. omega arith), r, q)
+
+pub nothing-found : foundOf 0 ≡ found.Missing
+unfolding foundOf
+nothing-found = refl
 
 -- the same by other names
 pub moved : {s : List ℕ} {kind n position position' at : ℕ} {f f' : Found} → f' ≡ f → position' ≡ position → Walking s kind n f position at → Walking s kind n f' position' at

@@ -1,5 +1,6 @@
 -- The code's answers in the words of the definitions. Assumes nothing: these are definitions.
-use Prim.Native.Nat.{ℕ, _*_}
+use Prim.Native.Nat.{ℕ, _*_, _/_, _%_}
+use lib.Dec.{eqb}
 use mathlib.Core.List.{List}
 use mathlib.Core.Option.{Option, none, some}
 use Rattle.definitions.specs.Result.{err, ok, _>>=_, _>>_, okOrElse}
@@ -7,7 +8,7 @@ use Rattle.definitions.specs.Ast.{StorageField, Function, Contract}
 use Rattle.definitions.specs.Ir as defs
 use Rattle.definitions.specs.Lower as lowering
 use Rattle.definitions.specs.Lower.{Lowering, storageNamed, structNamed, fieldPosition, structOf}
-use Rattle.definitions.specs.Records.{Tree, node, numAt}
+use Rattle.definitions.specs.Records.{pick, Tree, node, numAt}
 use Rattle.definitions.specs.Sema as sema
 use Rattle.ir.specs.Types.{asType}
 use Rattle.nodes.specs.Ready.{treeAt, Ready}
@@ -55,6 +56,10 @@ foundIn s found.Missing = none
 abbrev pub Placed : List ℕ → ℕ → Found → Type 0
 Placed s k (found.At i p) = Ready (topClass k) s p 39
 Placed s k found.Missing = Unit {0}
+
+-- what a walk found, as one number
+unfoldable pub foundOf : ℕ → Found
+foundOf n = pick (eqb n 0) found.Missing (found.At (n % 65536) (n / 65536))
 
 -- what a later record gave, or else what the earlier ones gave
 abbrev pub orEarlier : Found → Found → Found

@@ -11,7 +11,7 @@ ghost use Rattle.definitions.specs.ContractSheet.{readContract, structOf};
 ghost use Rattle.ir.specs.Types.{asType};
 ghost use Rattle.sheet.specs.Passed.{childrenOf};
 ghost use Rattle.nodes.specs.Ready.{Checked, Ready, treeAt};
-ghost use Rattle.names.specs.Answers.{foundIn, orEarlier, Placed, treeName, slotOf, slotNamed, positionOf, offsetOf, fieldOffset, signatureOf, signatureNamed};
+ghost use Rattle.names.specs.Answers.{foundIn, foundOf, orEarlier, Placed, treeName, slotOf, slotNamed, positionOf, offsetOf, fieldOffset, signatureOf, signatureNamed};
 use crate::Found;
 use crate::LoweringError;
 use crate::Offset;
@@ -25,14 +25,21 @@ use ir::FunctionId;
 use ir::IrType;
 use ir::Name;
 
-// What a later record gave, or else what the earlier ones gave.
-fn or_earlier(later: Found, earlier: Found) -> Found
-    ensures { λ r. ⌜ r ≡ orEarlier later earlier ⌝ }
+// What a walk found, as one number: 65,536 times the place, and the position. 0 is nothing: no record of the contract starts at 0.
+fn decoded(found: usize) -> Found
+    ensures { λ r. ⌜ r ≡ foundOf found ⌝ }
 {
-    match later {
-        Found::At(i, p) => Found::At(i, p),
-        Found::Missing => earlier,
+    if found == 0 {
+        return Found::Missing;
     }
+    Found::At(found % 65536, found / 65536)
+}
+
+// The later one serves, if there is one.
+fn or_earlier(later: usize, earlier: usize) -> usize
+    ensures { λ r. ⌜ foundOf r ≡ orEarlier (foundOf later) (foundOf earlier) ⌝ }
+{
+    if later == 0 { earlier } else { later }
 }
 
 // The last record of a kind (2, 3 or 4) that has a name.
@@ -40,22 +47,22 @@ fn last_named(s: &[u8], kind: usize, name: Name) -> Found
     requires { ⌜ Checked (now s) × ((2 ≤ kind) × (kind ≤ 4)) ⌝ }
     ensures { λ r. ⌜ (foundIn (now (s .entry)) r ≡ lastNamed treeName 0 (gather kind kind (λ (t : Tree). t) (childrenOf (now (s .entry)) 0)) (name .0)) × Placed (now (s .entry)) kind r ⌝ }
 {
-    let mut found = Found::Missing;
+    let mut found = 0;
     let mut position = 0;
     let mut at = 8;
     while at < s.len() {
         if read(s, at + 4, 2) == kind {
             let this = if read_u16(s, at + 6) == name.0 {
-                Found::At(position, at)
+                at * 65536 + position
             } else {
-                Found::Missing
+                0
             };
             found = or_earlier(this, found);
             position += 1;
         }
         at += read(s, at, 4);
     }
-    found
+    decoded(found)
 }
 
 // A storage field's slot: its position.

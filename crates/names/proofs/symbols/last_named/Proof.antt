@@ -5,18 +5,19 @@ use mathlib.Core.Logic.{⊎-elim}
 use native.Mathlib.Omega.{arith}
 use borrow.Author.Needs.{needs}
 use lib.ListN.{length}
-use Rattle.names.proofs.Lasts.{Walking, begun, walked, top-at, other-kind, has-name, has-not, this-kind, moved}
+use Rattle.names.specs.Answers.{foundOf}
+use Rattle.names.proofs.Lasts.{Walking, begun, walked, top-at, other-kind, has-name, has-not, this-kind, coded, nothing-found, moved}
 use Rattle.names.proofs.symbols.last_named.Statement.{statement}
 use Rattle.names.proofs.symbols.last_named.Tie as tie
 
 abbrev Inv-loop : tie.InvT-loop
-Inv-loop s kind name found₀ position₀ at₀ found position at = Walking s kind (name .0) found position at
+Inv-loop s kind name found₀ position₀ at₀ found position at = Walking s kind (name .0) (foundOf found) position at
 
 abbrev μ-loop : tie.MeasureT-loop
 μ-loop s kind name found₀ position₀ at₀ found position at = length s - at
 
 loop-holds : tie.Need-loop-holds Inv-loop μ-loop
-loop-holds c = begun (c .before .args .s .now) (c .before .args .kind) (c .before .args .name .0) (c .before .pre .0)
+loop-holds c = rw nothing-found (begun (c .before .args .s .now) (c .before .args .kind) (c .before .args .name .0) (c .before .pre .0))
 
 add-read : tie.Need-add-read Inv-loop μ-loop
 add-read c = let P = top-at (c .before .loop .inv) (c .loop-test .taken) in omega (arith, P .long, P .inside)
@@ -35,6 +36,15 @@ read-u16-requires : tie.Need-read-u16-requires Inv-loop μ-loop
 read-u16-requires c κs =
     let P = top-at (c .before .before .before .loop .inv) (c .before .before .loop-test .taken) in
     omega (arith, P .long, P .inside)
+
+mul-this : tie.Need-mul-this Inv-loop μ-loop
+mul-this c = let C = c .before .before .before .before .before .before .before .before .pre .0 .short in omega (arith, C, c .before .before .before .before .before .loop-test .taken)
+
+add-this : tie.Need-add-this Inv-loop μ-loop
+add-this c =
+    let C = c .before .before .before .before .before .before .before .before .pre .0 .short in
+    let W = c .before .before .before .before .before .before .loop .inv in
+    omega (arith, C, W .low, c .before .before .before .before .before .loop-test .taken)
 
 or-earlier-requires : tie.Need-or-earlier-requires Inv-loop μ-loop
 or-earlier-requires c κs = search needs
@@ -65,17 +75,18 @@ loop-again c =
     let W = b .loop .inv in
     let l = c .before .before .before .loop-test .taken in
     let r = c .before .before .read .ensures .0 in
+    let C = b .before .before .pre .0 .short in
     rw (ap (λ (x : ℕ). b .loop .at + x) (c .read2 .ensures .0))
     (⊎-elim
     (λ w.
     let e = sym r ∙ w .0 .taken in
-    let t = ⊎-elim (λ v. has-name W l e (sym (w .1 .ensures) ∙ v .0 .taken) (v .1)) (λ v. has-not W l (λ z. v .0 .left (w .1 .ensures ∙ z)) (v .1)) (w .3 .came) in
-    moved (w .5 ∙ w .4 .ensures) (w .6) (this-kind W l (w .3 .this) e t))
-    (λ w. moved (w .1) (w .2) (other-kind W l (λ z. w .0 .left (r ∙ z))))
+    let t = ⊎-elim (λ v. has-name W l e (sym (w .1 .ensures) ∙ v .0 .taken) (ap foundOf (v .1) ∙ coded (b .loop .at) (b .loop .position) (omega (arith, W .low)) (omega (arith, W .low, C, l)))) (λ v. has-not W l (λ z. v .0 .left (w .1 .ensures ∙ z)) (ap foundOf (v .1) ∙ nothing-found)) (w .3 .came) in
+    moved (ap foundOf (w .5) ∙ w .4 .ensures) (w .6) (this-kind W l (foundOf (w .3 .this)) e t))
+    (λ w. moved (ap foundOf (w .1)) (w .2) (other-kind W l (λ z. w .0 .left (r ∙ z))))
     (c .before .if1 .came))
 
 returns : tie.Need-returns Inv-loop μ-loop
-returns c = walked (c .before .loop .inv) (c .loop-test .left)
+returns c = let W = walked (c .before .before .loop .inv) (c .before .loop-test .left) in rw (c .decoded .ensures) W
 
 pub last-named-spec : {M : Type 1} → statement M
 last-named-spec =
@@ -88,10 +99,13 @@ last-named-spec =
     read-requires
     add-read-u16
     read-u16-requires
+    mul-this
+    add-this
     or-earlier-requires
     add-position
     read-requires-2
     add-at
     loop-less
     loop-again
+    (λ c κs. search needs)
     returns)

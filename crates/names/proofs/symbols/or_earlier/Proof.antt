@@ -1,22 +1,17 @@
--- `names::symbols::or_earlier`: an arm for each answer. Assumes nothing.
-use mathlib.Core.Path.{ap, sym}
-use Rattle.names.specs.declared.Found.{Found}
-use Rattle.names.specs.Answers.{orEarlier}
-use borrow.Author.Needs.{needs}
+-- `names::symbols::or_earlier`: nothing gives way. Assumes nothing.
+use mathlib.Core.Path.{refl}
+use borrow.Author.Tests.{eq-eqb, ne-eqb}
+use Rattle.names.specs.Answers.{foundOf, orEarlier}
 use Rattle.names.proofs.symbols.or_earlier.Statement.{statement}
 use Rattle.names.proofs.symbols.or_earlier.Tie as tie
 
-enum-known-later : tie.Need-enum-known-later
-enum-known-later c = search needs
-
-enum-told : tie.Need-enum-told
-enum-told c = search needs
-
 returns : tie.Need-returns
-returns c = ap (λ (f : Found). orEarlier f (c .before .before .before .args .earlier)) (sym (c .before .later .given .1))
+unfolding foundOf
+returns c = rw (eq-eqb _ 0 (c .if1 .taken)) refl
 
 returns-2 : tie.Need-returns-2
-returns-2 c = search needs
+unfolding foundOf
+returns-2 c = rw (ne-eqb _ 0 (c .if1 .left)) refl
 
 pub or-earlier-spec : {M : Type 1} → statement M
-or-earlier-spec = tie.close (tie.spec enum-known-later enum-told returns returns-2)
+or-earlier-spec = tie.close (tie.spec returns returns-2)
