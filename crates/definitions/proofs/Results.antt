@@ -19,6 +19,11 @@ ok-inj e = cc
 pub err-ok : {E A : Type 0} {x : E} {b : A} → _≡_ {A = Result E A} (err x) (ok b) → ⊥
 err-ok e = let z : _≡_ {A = ℕ} 0 1 = cc in omega arith
 
+-- a test, with its equation in each of the two cases
+pub by-test : {G : Type 0} (t : Bool) → (t ≡ true → G) → (t ≡ false → G) → G
+by-test true y n = y refl
+by-test false y n = n refl
+
 -- What was found is handed to the rest of the proof, which then speaks of variables.
 pub taking : {E A B G : Type 0} (r : Result E A) (k : A → Result E B) {b : B} → (r >>= k) ≡ ok b → ((a : A) → r ≡ ok a → k a ≡ ok b → G) → G
 taking (err x) k e rest = absurd (err-ok e)
@@ -48,8 +53,7 @@ last-below {A} name i (a ∷ rs) n r e = go (lastNamed name (suc i) rs n) (eqb (
 
 pub first-below : {A : Type 0} (name : A → ℕ) (i : ℕ) (rs : List A) (n k : ℕ) → firstNamed name i rs n ≡ some k → k < i + length rs
 first-below name i [] n k e = absurd (some-none k (sym e))
-first-below name i (a ∷ rs) n k e = go (eqb (name a) n) refl (λ h. first-below name (suc i) rs n k h)
-  where
-    go : (t : Bool) → eqb (name a) n ≡ t → (firstNamed name (suc i) rs n ≡ some k → k < suc i + length rs) → k < i + length (a ∷ rs)
-    go true q below = let y : some i ≡ some k = rw (q, firstNamed) at e in let z : i ≡ k = cc in omega arith
-    go false q below = omega (arith, below (rw (q, firstNamed) at e))
+first-below name i (a ∷ rs) n k e =
+    by-test (eqb (name a) n)
+    (λ q. let y : some i ≡ some k = rw (q, firstNamed) at e in let z : i ≡ k = cc in omega arith)
+    (λ q. omega (arith, first-below name (suc i) rs n k (rw (q, firstNamed) at e)))

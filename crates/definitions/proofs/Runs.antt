@@ -1,4 +1,5 @@
 pub mod Safe
+pub mod Blocks
 pub mod Invariant
 pub mod Expressions
 pub mod Statements

@@ -14,6 +14,8 @@ ghost use Rattle.definitions.specs.Records.{writeType};
 ghost use Rattle.ir.specs.Types.{asType};
 ghost use Rattle.walk.specs.Log.{push, close, logOf, nextValue};
 ghost use Rattle.emit.specs.Bytes.{recordBytes, idBytes, Added};
+use counters::Counters;
+use counters::next_value;
 use ir::BlockId;
 use ir::FunctionId;
 use ir::IrType;
@@ -40,11 +42,17 @@ pub fn type_code(t: IrType) -> usize
     }
 }
 
-// The value after v: ids have 16 bits.
+// The value after v: ids have 16 bits. An expression makes no block and no local, so the number of the next value goes through the
+// cycle of expressions alone, and the other counters stay with the function.
 pub fn next(v: ValueId) -> ValueId
     ensures { λ r. ⌜ r .0 ≡ suc (v .0) % 65536 ⌝ }
 {
-    ValueId(((v.0 as u32 + 1) % 65536) as u16)
+    let taken = next_value(Counters {
+        value: v.0,
+        block: 0,
+        local: 0,
+    });
+    ValueId(taken.counters.value)
 }
 
 // The n bytes of v, behind what is there.

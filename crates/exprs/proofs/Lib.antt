@@ -1,4 +1,5 @@
 pub mod Answered
+pub mod ArgSteps
 pub mod CallSteps
 pub mod Called
 pub mod ExprSteps

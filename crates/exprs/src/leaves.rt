@@ -17,8 +17,6 @@ ghost use Rattle.walk.specs.Exprs.{Walked, pushValue, walkIdent, walkStorageRea
 ghost use Rattle.exprs.specs.Exprs.{loweredIn, valuedIn, fieldOn, binaryOn};
 use crate::Lowered;
 use crate::Valued;
-use fields::read;
-use fields::read_u16;
 use ir::IrType;
 use ir::Name;
 use ir::ValueId;
@@ -26,6 +24,8 @@ use names::Held;
 use names::LoweringError;
 use names::Offset;
 use names::Slot;
+use reader::read;
+use reader::read_u16;
 
 // An integer.
 pub(crate) fn lower_int(number: usize, value: ValueId, log: &mut [u8; 32768], to: usize) -> Lowered

@@ -11,13 +11,13 @@ ghost use Rattle.walk.specs.Log.{logOf};
 ghost use Rattle.walk.specs.Exprs.{walkExpr, walkExprValue};
 ghost use Rattle.exprs.specs.Exprs.{loweredIn, valuedIn};
 use emit::next;
-use fields::read;
-use fields::read_u16;
 use ir::FunctionId;
 use ir::IrType;
 use ir::Name;
 use ir::ValueId;
 use names::LoweringError;
+use reader::read;
+use reader::read_u16;
 
 mod calls; // what is called, and the call of it
 mod leaves; // expressions without expressions in them, and what is done with values

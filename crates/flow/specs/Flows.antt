@@ -10,6 +10,7 @@ use Rattle.definitions.specs.Lower.{Lowering, Scope}
 use Rattle.definitions.specs.Records.{typeFrom}
 use Rattle.names.specs.Answers.{errorOf}
 use Rattle.names.specs.Entries.{entryOf}
+use Rattle.counters.specs.declared.Counters.{Counters}
 use Rattle.walk.specs.Log.{Log, logOf}
 use Rattle.walk.specs.Exprs.{walkExprValue}
 use Rattle.walk.specs.Stmts.{Ctx, withLog, pushC, terminate, switchTo, initLocal}
@@ -47,6 +48,13 @@ steppedIn i log types starts stops es (stepped.Refused e) = err (errorOf e)
 -- the current block's records stop where this log ends
 abbrev pub closedAt : Log → Ctx → Ctx
 closedAt l c = record { fid = c .fid; log = l; nextBlock = c .nextBlock; current = c .current; ended = true; locals = c .locals; starts = c .starts; stops = set (c .stops) (c .current) (l .at) }
+
+-- the counters of the state, where v is the next value, and the state with others and the log's new place
+abbrev pub countersAt : Flow → (v : ℕ) → Counters
+countersAt f v = record { value = v; block = f .block; local = f .local }
+
+abbrev pub flowAt : Flow → Counters → (to : ℕ) → Flow
+flowAt f c to = record { value = record { 0 = c .value }; to = to; block = c .block; current = f .current; local = c .local; ended = f .ended }
 
 -- PARTS OF THE WALK that are functions of the code. Untrusted: shown equal to the walk's own.
 -- the condition of a While in its header, block b, and the branch

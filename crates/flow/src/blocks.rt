@@ -8,29 +8,51 @@ ghost use Rattle.definitions.specs.Ir.{Terminator};
 ghost use Rattle.ir.specs.Types.{asType};
 ghost use Rattle.walk.specs.Log.{logOf};
 ghost use Rattle.walk.specs.Stmts.{withLog, terminate, terminateIfOpen, switchTo, threeBlocks, initLocal, nextArm};
-ghost use Rattle.flow.specs.Flows.{ctxIn, madeIn, closedAt, Sound, Grown, BlocksMade, LocalMade};
+ghost use Rattle.flow.specs.Flows.{ctxIn, madeIn, closedAt, countersAt, flowAt, Sound, Grown, BlocksMade, LocalMade};
 use crate::Flow;
 use crate::Made;
+use counters::Counters;
+use counters::next_block;
+use counters::next_local;
+use counters::next_value;
 use ir::BlockId;
 use ir::FunctionId;
 use ir::IrType;
-use ir::LocalId;
 use ir::ValueId;
 use names::LoweringError;
+
+// The counters of the state, where v is the next value.
+fn counters_at(flow: Flow, v: ValueId) -> Counters
+    ensures { λ r. ⌜ r ≡ countersAt flow (v .0) ⌝ }
+{
+    Counters {
+        value: v.0,
+        block: flow.block,
+        local: flow.local,
+    }
+}
+
+// The state with these counters and the log's new place.
+fn counted(flow: Flow, c: Counters, to: usize) -> Flow
+    ensures { λ r. ⌜ r ≡ flowAt flow c to ⌝ }
+{
+    Flow {
+        value: ValueId(c.value),
+        to,
+        block: c.block,
+        current: flow.current,
+        local: c.local,
+        ended: flow.ended,
+    }
+}
 
 // The state after the value v was made, with the log's new place.
 pub fn after(flow: Flow, v: ValueId, to: usize) -> Flow
     ensures { λ r. ⌜ ((i : ℕ) (log types starts stops : List ℕ) → ctxIn i log types starts stops r ≡ withLog (logOf log (suc (v .0) % 65536) to) (ctxIn i log types starts stops flow)) ⌝ }
     ensures { λ r. ⌜ (Sound flow → Grown flow r) ⌝ }
 {
-    Flow {
-        value: emit::next(v),
-        to,
-        block: flow.block,
-        current: flow.current,
-        local: flow.local,
-        ended: flow.ended,
-    }
+    let taken = next_value(counters_at(flow, v));
+    counted(flow, taken.counters, to)
 }
 
 // The state with the log's new place.
@@ -185,17 +207,10 @@ pub fn three_blocks(flow: Flow, function: FunctionId) -> Made
         return Made::Refused(LoweringError::TooManyBlocksOrLocals(function));
     }
     let value = flow.value;
-    Made::Next(
-        Flow {
-            value,
-            to: flow.to,
-            block: first + 3,
-            current: flow.current,
-            local: flow.local,
-            ended: flow.ended,
-        },
-        first,
-    )
+    let a = next_block(counters_at(flow, value));
+    let b = next_block(a.counters);
+    let c = next_block(b.counters);
+    Made::Next(counted(flow, c.counters, flow.to), a.id.0 as usize)
 }
 
 // How many locals a function may have.
@@ -223,17 +238,8 @@ pub fn init_local(
         return Made::Refused(LoweringError::TooManyBlocksOrLocals(function));
     }
     types[local] = emit::type_code(ty);
-    let to = emit::emit_write_local(log, flow.to, LocalId(local as u16), value);
     let next = flow.value;
-    Made::Next(
-        Flow {
-            value: next,
-            to,
-            block: flow.block,
-            current: flow.current,
-            local: local + 1,
-            ended: flow.ended,
-        },
-        local,
-    )
+    let taken = next_local(counters_at(flow, next));
+    let to = emit::emit_write_local(log, flow.to, taken.id, value);
+    Made::Next(counted(flow, taken.counters, to), taken.id.0 as usize)
 }

@@ -16,8 +16,6 @@ ghost use Rattle.layout.specs.Laid.{roomOf, Laid};
 ghost use Rattle.layout.specs.Stored.{Put, blockIn, blocksIn, blocksSize, Within, Kept, has, Span};
 use emit::type_code;
 use fields::copy;
-use fields::read;
-use fields::read_u16;
 use fields::write;
 use flow::Flow;
 use ir::FunctionId;
@@ -25,6 +23,8 @@ use ir::Name;
 use ir::type_of;
 use names::types::own_return_type;
 use names::types::parse_ir_type;
+use reader::read;
+use reader::read_u16;
 
 // A sheet's most bytes; a place over it says that something did not fit.
 pub const MOST: usize = 32768;

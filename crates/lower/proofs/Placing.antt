@@ -21,7 +21,8 @@ use Rattle.definitions.specs.ContractSheet.{functionOf, readContract, oneIf}
 use Rattle.definitions.proofs.Sheets.Passed.{read-end}
 use Rattle.sheet.specs.Passed.{kindOf, stopOf}
 use Rattle.nodes.specs.Ready.{Checked, Ready, treeAt, functionAt, paramsFrom}
-use Rattle.nodes.proofs.Tops.{TopKind, Tops, Top, next-top, contract-at, function-at, gather-here, gather-past}
+use Rattle.definitions.proofs.Contracts.Limits.{TopKind, gather-here, gather-past}
+use Rattle.nodes.proofs.Tops.{Tops, Top, next-top, contract-at, function-at}
 use Rattle.walk.specs.Stmts.{Ctx}
 use Rattle.walk.specs.Layout.{walkFunction, functionBytes}
 use Rattle.walk.proofs.Functions.{Whole, Same, function-same}

@@ -14,10 +14,7 @@ ghost use Rattle.flow.specs.Flows.{ctxIn, stepIn, Sound};
 ghost use Rattle.layout.specs.Laid.{roomOf};
 ghost use Rattle.lower.specs.Whole.{begunIn, BegunSound, newFlow, StepSound, FunctionPlaced, FunctionsPlaced, Filled, Finished, answerOf, lowerRest, Answered, writtenBy};
 ghost use Rattle.lower.specs.declared.Answer.the-variants as answer;
-use fields::all_bytes;
 use fields::clear;
-use fields::read;
-use fields::read_u16;
 use fields::write;
 use flow::Flow;
 use flow::Made;
@@ -31,6 +28,9 @@ use names::LoweringError;
 use names::Scopes;
 use names::entries;
 use names::types::parse_ir_type;
+use reader::all_bytes;
+use reader::read;
+use reader::read_u16;
 
 // The answer: the sheet's length, or why there is none.
 pub enum Answer {
@@ -87,10 +87,10 @@ fn lower_params(
         match made {
             Made::Next(next, local) => {
                 flow = next;
-                scopes = entries::declare(
-                    scopes,
-                    entries::entry(Name::new(read_u16(s, place)), LocalId(local as u16), ty),
-                );
+                let count = scopes.count;
+                let e = entries::entry(Name::new(read_u16(s, place)), LocalId(local as u16), ty);
+                entries::hold(&mut scopes.entries, count, e);
+                scopes.count = count + 1;
             }
             Made::Refused(e) => {
                 return Begun {

@@ -4,13 +4,15 @@
 // No contract can say which bytes are read or written, so `main` is proved only safe and ending. `lines::lower_line` has the contract on the
 // bytes: from the sheet in the buffer to the line in `text`.
 use libc::STDIN_FILENO;
-use libc::STDOUT_FILENO;
 
 fn main() {
+    if !console::is_readable() {
+        return;
+    }
     let mut sheet = io::large_buffer();
     let n = io::read_full(STDIN_FILENO, &mut sheet);
     let mut out = [0u8; 32768];
     let mut text = [0u8; 98307];
     let k = lines::lower_line(&sheet[..n], &mut out, &mut text);
-    io::write_all(STDOUT_FILENO, &text[..k]);
+    console::print(&text[..k]);
 }

@@ -1,6 +1,6 @@
 // The operations for C and Rust to call, in a static library. Each writes its answer's six numbers: 0 or the refusal's number, its details
-// in order, then zeros. C declares `void malovuneth_verify(const uint8_t *sheet, size_t length, size_t out[6])`; and lowering, which writes
-// a sheet too, `void malovuneth_lower(const uint8_t *sheet, size_t length, uint8_t *out, size_t room, size_t numbers[6])`.
+// in order, then zeros. include/malovuneth.h declares `malovuneth_lower` and `malovuneth_verify`, a slice being a pointer and a length; the
+// other two are for the differential test.
 ghost use mathlib.Core.Path.{_≡_};
 ghost use lib.ListN.{length};
 ghost use Rattle.definitions.specs.Answers.{checkContract, loweredNumbers, lowerSheet, numbersOf, outputOf, padded, refuseForm, verifySheet};

@@ -18,7 +18,9 @@ use Rattle.definitions.proofs.Sheets.Passed.{read-end}
 use Rattle.definitions.proofs.Sheets.Steps.{low}
 use Rattle.sheet.specs.Passed.{kindOf, stopOf, childrenOf}
 use Rattle.nodes.specs.Ready.{Checked, treeAt}
-use Rattle.nodes.proofs.Tops.{TopKind, mostOf, Tops, Top, next-top, ContractAt, contract-at, at-most, gather-here, gather-past}
+use Rattle.definitions.proofs.Contracts.Limits.{TopKind, mostOf, gather-here, gather-past}
+use Rattle.nodes.proofs.Order.{none-after}
+use Rattle.nodes.proofs.Tops.{Tops, Top, next-top, ContractAt, contract-at, at-most}
 use Rattle.names.specs.declared.Found.{Found}
 use Rattle.names.specs.declared.Found.the-variants as found
 use Rattle.names.specs.Answers.{foundIn, foundOf, orEarlier, Placed, treeName}
@@ -57,6 +59,12 @@ pub walked : {s : List ℕ} {kind n position at : ℕ} {f : Found} → Walking s
 walked {s} {kind} {n} {position} {at} {f} W h =
     let e : at ≡ length s = omega (arith, low (W .tops .fine)) in
     (sym (rw (e, read-end s (length s))) ∙ W .is, W .placed)
+
+-- a record of a higher kind: none of the kind comes after it
+pub stopped : {s : List ℕ} {kind n position at : ℕ} {f : Found} → Walking s kind n f position at → at < length s → kind < kindOf s at
+    → (foundIn s f ≡ lastNamed treeName 0 (gather kind kind (λ (t : Tree). t) (childrenOf s 0)) n) × Placed s kind f
+stopped {s} {kind} {n} {position} {at} {f} W l h =
+    (sym (ap (λ (ts : List Tree). or (lastNamed treeName position ts n) (foundIn s f)) (none-after s kind (λ (t : Tree). t) (W .tops) l h)) ∙ W .is, W .placed)
 
 pub top-at : {s : List ℕ} {kind n position at : ℕ} {f : Found} (W : Walking s kind n f position at) → at < length s → Top s at (W .tops)
 top-at W l = next-top (W .tops) l

@@ -2,4 +2,5 @@ mod Firsts
 mod Lasts
 mod Packed
 mod Reading
+mod Storing
 mod Symbolic

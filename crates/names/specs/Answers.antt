@@ -11,8 +11,7 @@ use Rattle.definitions.specs.Lower.{Lowering, storageNamed, structNamed, fieldP
 use Rattle.definitions.specs.Records.{pick, Tree, node, numAt}
 use Rattle.definitions.specs.Sema as sema
 use Rattle.ir.specs.Types.{asType}
-use Rattle.nodes.specs.Ready.{treeAt, Ready}
-use Rattle.nodes.proofs.Tops.{topClass}
+use Rattle.nodes.specs.Ready.{treeAt, topClass, Ready}
 use Rattle.names.specs.declared.LoweringError.{LoweringError}
 use Rattle.names.specs.declared.LoweringError.the-variants as code
 use Rattle.names.specs.declared.Held.{Held}
@@ -60,6 +59,10 @@ Placed s k found.Missing = Unit {0}
 -- what a walk found, as one number
 unfoldable pub foundOf : ℕ → Found
 foundOf n = pick (eqb n 0) found.Missing (found.At (n % 65536) (n / 65536))
+
+-- a storage field by its place, 8 + 10 * i for the i-th; 0 is nothing
+unfoldable pub storedAt : ℕ → Found
+storedAt p = pick (eqb p 0) found.Missing (found.At (p / 10) p)
 
 -- what a later record gave, or else what the earlier ones gave
 abbrev pub orEarlier : Found → Found → Found

@@ -3,6 +3,7 @@ ghost use mathlib.Core.Path.{_≡_};
 ghost use mathlib.Core.List.{_∷_};
 ghost use mathlib.Core.Option.{some};
 ghost use Prim.Native.Nat.{_+_, _*_, _≤_, _<_};
+ghost use lib.ListN.{length};
 ghost use Rattle.definitions.specs.Ir.{tagOf, nameOf};
 ghost use Rattle.definitions.specs.Lower.{inScope};
 ghost use Rattle.ir.specs.Types.{asType};
@@ -75,7 +76,31 @@ pub fn none() -> Scopes
     }
 }
 
-// One name more is held.
+// The names that are held, for a scope of its own: what is declared there is gone with it.
+pub fn copied(entries: &[u64; 256], count: usize) -> Scopes
+    ensures { λ r. ⌜ (r .entries ≡ now (entries .entry)) × (r .count ≡ count) ⌝ }
+{
+    let entries = *entries;
+    Scopes { entries, count }
+}
+
+// How many names may be held.
+fn most(entries: &[u64]) -> usize
+    ensures { λ r. ⌜ r ≡ length (now (entries .entry)) ⌝ }
+{
+    entries.len()
+}
+
+// One name more is held, behind the first `count`. `most` shows how long the array is, and changes nothing.
+pub fn hold(entries: &mut [u64; 256], count: usize, e: u64)
+    requires { ⌜ count < 256 ⌝ }
+    ensures { λ _. ⌜ entriesOf (now (entries .exit)) (count + 1) ≡ entryOf e ∷ entriesOf (now (entries .entry)) count ⌝ }
+{
+    most(entries);
+    entries[count] = e;
+}
+
+// The same, for a scope of its own.
 pub fn declare(scopes: Scopes, e: u64) -> Scopes
     requires { ⌜ scopes .count < 256 ⌝ }
     ensures { λ r. ⌜ (r .count ≡ scopes .count + 1) × (entriesOf (r .entries) (r .count) ≡ entryOf e ∷ entriesOf (scopes .entries) (scopes .count)) ⌝ }

@@ -9,9 +9,9 @@ ghost use Rattle.definitions.specs.Names.{lastNamed};
 ghost use Rattle.definitions.specs.Records.{Tree, gather};
 ghost use Rattle.definitions.specs.ContractSheet.{readContract, structOf};
 ghost use Rattle.ir.specs.Types.{asType};
-ghost use Rattle.sheet.specs.Passed.{childrenOf};
-ghost use Rattle.nodes.specs.Ready.{Checked, Ready, treeAt};
-ghost use Rattle.names.specs.Answers.{foundIn, foundOf, orEarlier, Placed, treeName, slotOf, slotNamed, positionOf, offsetOf, fieldOffset, signatureOf, signatureNamed};
+ghost use Rattle.sheet.specs.Passed.{kindOf, stopOf, childrenOf};
+ghost use Rattle.nodes.specs.Ready.{Checked, Ready, topClass, treeAt};
+ghost use Rattle.names.specs.Answers.{foundIn, foundOf, storedAt, orEarlier, Placed, treeName, slotOf, slotNamed, positionOf, offsetOf, fieldOffset, signatureOf, signatureNamed};
 use crate::Found;
 use crate::LoweringError;
 use crate::Offset;
@@ -19,11 +19,11 @@ use crate::Position;
 use crate::Signature;
 use crate::Slot;
 use crate::types::return_type;
-use fields::read;
-use fields::read_u16;
 use ir::FunctionId;
 use ir::IrType;
 use ir::Name;
+use reader::read;
+use reader::read_u16;
 
 // What a walk found, as one number: 65,536 times the place, and the position. 0 is nothing: no record of the contract starts at 0.
 fn decoded(found: usize) -> Found
@@ -42,7 +42,18 @@ fn or_earlier(later: usize, earlier: usize) -> usize
     if later == 0 { earlier } else { later }
 }
 
-// The last record of a kind (2, 3 or 4) that has a name.
+// The place after a record. Every storage field (kind 2) takes ten bytes: a walk past them waits for no length that it reads.
+fn past(s: &[u8], at: usize, kind: usize) -> usize
+    requires { ⌜ (kind ≡ kindOf (now s) at) × Ready (topClass kind) (now s) at 39 ⌝ }
+    ensures { λ r. ⌜ r ≡ stopOf (now (s .entry)) at ⌝ }
+{
+    if kind == 2 {
+        return at + 10;
+    }
+    at + read(s, at, 4)
+}
+
+// The last record of a kind (2, 3 or 4) that has a name. None comes after a record of a higher kind.
 fn last_named(s: &[u8], kind: usize, name: Name) -> Found
     requires { ⌜ Checked (now s) × ((2 ≤ kind) × (kind ≤ 4)) ⌝ }
     ensures { λ r. ⌜ (foundIn (now (s .entry)) r ≡ lastNamed treeName 0 (gather kind kind (λ (t : Tree). t) (childrenOf (now (s .entry)) 0)) (name .0)) × Placed (now (s .entry)) kind r ⌝ }
@@ -51,7 +62,11 @@ fn last_named(s: &[u8], kind: usize, name: Name) -> Found
     let mut position = 0;
     let mut at = 8;
     while at < s.len() {
-        if read(s, at + 4, 2) == kind {
+        let here = read(s, at + 4, 2);
+        if kind < here {
+            return decoded(found);
+        }
+        if here == kind {
             let this = if read_u16(s, at + 6) == name.0 {
                 at * 65536 + position
             } else {
@@ -60,20 +75,42 @@ fn last_named(s: &[u8], kind: usize, name: Name) -> Found
             found = or_earlier(this, found);
             position += 1;
         }
-        at += read(s, at, 4);
+        at = past(s, at, here);
     }
     decoded(found)
 }
 
-// A storage field's slot: its position.
+// The place of the last storage field that has a name; 0 is nothing. Storage fields come first. Kind and name are read as one number.
+fn last_storage(s: &[u8], name: Name) -> usize
+    requires { ⌜ Checked (now s) ⌝ }
+    ensures { λ r. ⌜ foundIn (now (s .entry)) (storedAt r) ≡ lastNamed treeName 0 (gather 2 2 (λ (t : Tree). t) (childrenOf (now (s .entry)) 0)) (name .0) ⌝ }
+{
+    let wanted = 2 + 65536 * (name.0 as usize);
+    let mut found = 0;
+    let mut at = 8;
+    while at < s.len() {
+        let here = read(s, at + 4, 4);
+        if here % 65536 != 2 {
+            return found;
+        }
+        if here == wanted {
+            found = or_earlier(at, found);
+        }
+        at += 10;
+    }
+    found
+}
+
+// A storage field's slot: its position. The first field stands at 8, and each takes ten bytes.
 pub fn storage_slot(s: &[u8], name: Name) -> Slot
     requires { ⌜ Checked (now s) ⌝ }
     ensures { λ r. ⌜ slotOf r ≡ slotNamed (readContract (now (s .entry))) (name .0) ⌝ }
 {
-    match last_named(s, 2, name) {
-        Found::At(i, _) => Slot::At(i),
-        Found::Missing => Slot::Undeclared,
+    let place = last_storage(s, name);
+    if place == 0 {
+        return Slot::Undeclared;
     }
+    Slot::At(place / 10)
 }
 
 // The position of the first field of a name in the struct at a place.

@@ -1,6 +1,6 @@
 -- The children of a record by the pattern of its kind: what stands first, and what is left after it. Assumes nothing.
 use mathlib.Core.Path.{_≡_, refl, ap, sym, _∙_, subst}
-use mathlib.Core.Bool.{Bool, true, false}
+use mathlib.Core.Bool.{false}
 use mathlib.Core.List.{List, [], _∷_, _++_, map}
 use Prim.Native.Nat.{ℕ, suc, _+_, _-_, _<_, _≤_}
 use native.Mathlib.Omega.{arith}
@@ -10,14 +10,15 @@ use borrow.Author.Tests.{leb-true, leb-false}
 use Rattle.definitions.specs.Fields.{le}
 use Rattle.definitions.specs.Ast.{enil, econs, snil, scons}
 use Rattle.definitions.specs.Grammar.{Class, Entry, upTo, Field, single, Pattern, done, one, perhaps, many, rows}
-use Rattle.definitions.specs.Records.{pick, small, Value, item, sizeOf, okItem, readItem, pastAll, readValues, row, rowIn, rowFields, Good, Bad, Tree, node, Trees, tnil, tcons, readRecords}
+use Rattle.definitions.specs.Records.{mayEnd, small, Value, item, sizeOf, okItem, readItem, pastAll, readValues, row, rowIn, rowFields, Good, Tree, node, Trees, tnil, tcons, readRecords}
 use Rattle.definitions.specs.ContractSheet.{countTrees, either, over, oneIf, limitTree, limitTrees, exprOf, exprsOf, stmtOf, stmtsOf}
-use Rattle.definitions.proofs.Sheets.Passed.{Head, Fine, bad-good, both-good, read-end, read-step}
+use Rattle.definitions.proofs.Contracts.Limits.{either-no, shallow, tree-within}
+use Rattle.definitions.proofs.Sheets.Passed.{Head, Fine, both-good, read-end}
 use Rattle.definitions.proofs.Sheets.Lines.{OfRows}
-use Rattle.definitions.proofs.Sheets.Singles.{itemsFrom, after, Valid, Singles, singles}
+use Rattle.definitions.proofs.Sheets.Singles.{itemsFrom, after, Valid, Starts, starts}
 use Rattle.definitions.proofs.Sheets.Steps.{here, past, this, Step as Found, One, many-step, perhaps-step, one-step, done-ends, low}
-use Rattle.sheet.specs.Passed.{kindOf, stopOf, bodyOf, valuesOf}
-use Rattle.sheet.proofs.Nodes.{Node}
+use Rattle.sheet.specs.Passed.{kindOf, stopOf, bodyOf, valuesOf, childrenOf}
+use Rattle.sheet.proofs.Nodes.{Node, node-of, head-of}
 use Rattle.nodes.specs.Ready.{treeAt, exprAt, exprsFrom, stmtAt, stmtsFrom, Ready, ReadyAll}
 
 -- records that follow the pattern p stand from `at` to `end`, at the depth 41 less d
@@ -37,9 +38,6 @@ all-of k = record { fine = k .fine; inside = k .inside; depth = k .depth; sum = 
 pub kids-all : {c : Class} {s : List ℕ} {at end d : ℕ} → ReadyAll c s at end d → Kids (many c done) s at end d
 kids-all k = record { fine = k .fine; inside = k .inside; depth = k .depth; sum = k .sum; storage = k .storage; structs = k .structs; functions = k .functions; limit = k .limit }
 
-pub in-order : {p : Pattern} {s : List ℕ} {at end d : ℕ} → Kids p s at end d → at ≤ end
-in-order k = low (k .fine)
-
 -- THE FIRST OF THEM: a record of the class c, and after it what follows p
 pub record First (c : Class) (p : Pattern) (s : List ℕ) (at end d : ℕ) : Type 0 where
   pub ready : Ready c s at d
@@ -53,35 +51,13 @@ pub data Step (c : Class) (r p : Pattern) (s : List ℕ) (at end d : ℕ) : Type
   there : First c r s at end d → Step c r p s at end d
   skipped : Kids p s at end d → Step c r p s at end d
 
-node-of : {c : Class} {fs : List Field} {p r : Pattern} {s : List ℕ} {at end b stop : ℕ} → Head s at end c fs p b stop → Fine s b stop p → Fine s stop end r → Node s at end
-unfolding bodyOf valuesOf rowFields
-node-of {c} {fs} {p} {r} {s} {at} {end} {b} {stop} hd kids rest =
-    let f : rowFields (rowIn (kindOf s at) rows) ≡ fs = ap rowFields (hd .is) in
-    let e : stop ≡ stopOf s at = hd .stop-is in
-    let g : b ≡ bodyOf s at = rw (f, ← e) (hd .body-is) in
-    let v : readValues fs s stop (at + 6) ≡ valuesOf s at = rw (f, ← e) in
-    record {
-      class = c;
-      fields = fs;
-      pattern = p;
-      head = rw (g, e) at hd;
-      kids = rw (g, e) at kids;
-      rest = record { pattern = r; fine = rw e at rest };
-      is = rw (v, g, e) at (read-step hd kids rest);
-    }
-
-limits-first : (t : Tree) (ts : Trees) (d a b c : ℕ) → limitTrees (tcons t ts) d a b c ≡ Good → (limitTree t d a b c ≡ Good) × (limitTrees ts d (a + oneIf 2 t) (b + oneIf 3 t) (c + oneIf 4 t) ≡ Good)
-unfolding limitTrees
-limits-first t ts d a b c e = both-good (limitTree t d a b c) (limitTrees ts d (a + oneIf 2 t) (b + oneIf 3 t) (c + oneIf 4 t)) e
-
 first : {c : Class} {fs : List Field} {p q r : Pattern} {s : List ℕ} {at end b stop d : ℕ} → Kids r s at end d → Head s at end c fs q b stop → Fine s b stop q → Fine s stop end p → First c p s at end d
-unfolding node-of
+unfolding node-of limitTrees
 first {c} {fs} {p} {q} {r} {s} {at} {end} {b} {stop} {d} k hd kids rest =
     let n : Node s at end = node-of hd kids rest in
     let e : stop ≡ stopOf s at = hd .stop-is in
     let i : readRecords s at end ≡ tcons (treeAt s at) (readRecords s (stopOf s at) end) = n .is in
-    let g = limits-first (treeAt s at) (readRecords s (stopOf s at) end) (k .depth) (k .storage) (k .structs) (k .functions)
-    (ap (λ (ts : Trees). limitTrees ts (k .depth) (k .storage) (k .structs) (k .functions)) (sym i) ∙ k .limit) in
+    let g = both-good _ _ (ap (λ (ts : Trees). limitTrees ts (k .depth) (k .storage) (k .structs) (k .functions)) (sym i) ∙ k .limit) in
     record {
       ready = record {
         end = end;
@@ -178,22 +154,26 @@ no-more {c} {s} {at} {end} r h =
     let i : readRecords s at end ≡ tnil = at-end s e in
     record { here = e; is = i; exprs-is = ap exprsOf i; stmts-is = ap stmtsOf i }
 
+-- none of them, at any place
+pub nothing-at : {c : Class} {s : List ℕ} {at end d : ℕ} (e : ℕ) → e ≤ length s → ReadyAll c s at end d → ReadyAll c s e e d
+unfolding limitTrees mayEnd
+nothing-at {c} {s} e h r =
+    let z : readRecords s e e ≡ tnil = at-end s refl in
+    record {
+      fine = Fine.ends refl refl;
+      inside = h;
+      depth = r .depth;
+      sum = r .sum;
+      storage = 0;
+      structs = 0;
+      functions = 0;
+      limit = ap (λ (ts : Trees). limitTrees ts (r .depth) 0 0 0) z;
+    }
+
 -- INSIDE A RECORD: its limits, and its children
-limit-inside : (k : ℕ) (v : List Value) (ts : Trees) (at d a b c : ℕ) → limitTree (node at k v ts) d a b c ≡ Good → (over k v (countTrees ts) d a b c ≡ false) × (limitTrees ts (suc d) 0 0 0 ≡ Good)
-unfolding limitTree
-limit-inside k v ts at d a b c = go (over k v (countTrees ts) d a b c)
-  where
-    go : (t : Bool) → pick t (Bad at) (limitTrees ts (suc d) 0 0 0) ≡ Good → (t ≡ false) × (limitTrees ts (suc d) 0 0 0 ≡ Good)
-    go true e = absurd (bad-good e)
-    go false e = (refl, e)
-
-either-false : (a b : Bool) → either a b ≡ false → (a ≡ false) × (b ≡ false)
-either-false true b e = absurd (let z : _≡_ {A = ℕ} 0 1 = cc in omega arith)
-either-false false b e = (refl, e)
-
-not-deep : (k : ℕ) (v : List Value) (m d a b c : ℕ) → over k v m d a b c ≡ false → d ≤ 40
-unfolding over
-not-deep k v m d a b c e = let h : d < 41 = leb-false 41 d (either-false (leb 41 d) _ e .0) in omega arith
+pub not-over : {c : Class} {s : List ℕ} {at d : ℕ} (r : Ready c s at d)
+    → (over (kindOf s at) (valuesOf s at) (countTrees (childrenOf s at)) (r .depth) (r .storage) (r .structs) (r .functions) ≡ false) × (limitTrees (childrenOf s at) (suc (r .depth)) 0 0 0 ≡ Good)
+not-over {s = s} {at = at} r = tree-within at (kindOf s at) (valuesOf s at) (childrenOf s at) (r .depth) (r .storage) (r .structs) (r .functions) (r .limit)
 
 pub record Bounds (s : List ℕ) (at d : ℕ) : Type 0 where
   pub deep : 1 ≤ d
@@ -203,9 +183,12 @@ pub record Bounds (s : List ℕ) (at d : ℕ) : Type 0 where
 pub bounds : {c : Class} {s : List ℕ} {at d : ℕ} → Ready c s at d → Bounds s at d
 bounds {c} {s} {at} {d} r =
     let h = r .node-at .head in
-    let o = limit-inside _ _ _ at (r .depth) (r .storage) (r .structs) (r .functions) (r .limit) .0 in
-    let z : r .depth ≤ 40 = not-deep _ _ _ (r .depth) _ _ _ o in
+    let z : r .depth < 41 = shallow _ _ (r .depth) _ _ _ (kindOf s at) (not-over r .0) in
     record { deep = omega (arith, r .sum); low = omega (arith, h .low, h .mid); high = omega (arith, h .high, r .inside) }
+
+-- its size may be read
+pub size-fits : {c : Class} {s : List ℕ} {at d : ℕ} → Ready c s at d → (at + 4 ≤ length s) × (4 ≤ 8)
+size-fits r = let b = bounds r in (omega (arith, b .low, b .high), omega arith)
 
 pub kids-of : {c : Class} {s : List ℕ} {at d : ℕ} (r : Ready c s at d) → Kids (r .node-at .pattern) s (bodyOf s at) (stopOf s at) (d - 1)
 kids-of {c} {s} {at} {d} r =
@@ -218,14 +201,33 @@ kids-of {c} {s} {at} {d} r =
       storage = 0;
       structs = 0;
       functions = 0;
-      limit = limit-inside _ _ _ at (r .depth) (r .storage) (r .structs) (r .functions) (r .limit) .1;
+      limit = not-over r .1;
     }
 
 -- BY CLASS: what holds of every row of the class holds of the record's kind
 pub by-row : {c : Class} {s : List ℕ} {at d : ℕ} (P : Class → ℕ → List Field → Pattern → Type 0) → OfRows P c rows → (r : Ready c s at d) → P c (kindOf s at) (r .node-at .fields) (r .node-at .pattern)
 by-row {c} {s} {at} P f r = f (kindOf s at) _ _ (subst (λ (x : Class). rowIn (kindOf s at) rows ≡ row x (r .node-at .fields) (r .node-at .pattern)) (r .class-is) (r .node-at .head .is))
 
--- BY KIND: the fields of the kind's row are the entries es, and its children follow p
+-- BY KIND: what the row of the kind says of the record
+pub row-is : {s : List ℕ} {at end k : ℕ} (n : Node s at end) → kindOf s at ≡ k → rowIn k rows ≡ row (n .class) (n .fields) (n .pattern)
+row-is n e = subst (λ (i : ℕ). rowIn i rows ≡ row (n .class) (n .fields) (n .pattern)) e (n .head .is)
+
+-- its first fields are the entries es, and fs are the others
+pub record Entries (es : List Entry) (fs : List Field) (s : List ℕ) (at : ℕ) : Type 0 where
+  pub values : valuesOf s at ≡ itemsFrom es s at 6 ++ readValues fs s (stopOf s at) (at + after es 6)
+  pub body : bodyOf s at ≡ pastAll fs s (stopOf s at) (at + after es 6)
+  pub more : pastAll fs s (stopOf s at) (at + after es 6) ≡ 0 → ⊥
+  pub valid : Valid es s at 6
+  pub fits : at + after es 6 ≤ stopOf s at
+
+pub entries : {s : List ℕ} {at end k : ℕ} (n : Node s at end) (es : List Entry) (fs : List Field) → kindOf s at ≡ k → rowFields (rowIn k rows) ≡ map single es ++ fs → Entries es fs s at
+unfolding valuesOf
+entries {s} {at} n es fs e q =
+    let f : rowFields (rowIn (kindOf s at) rows) ≡ map single es ++ fs = ap (λ (i : ℕ). rowFields (rowIn i rows)) e ∙ q in
+    let S : Starts es fs s at (bodyOf s at) (stopOf s at) = starts es fs (rw q at (head-of n e)) in
+    record { values = ap (λ (l : List Field). readValues l s (stopOf s at) (at + 6)) f ∙ S .values; body = S .body; more = S .more; valid = S .valid; fits = S .fits }
+
+-- its fields are the entries es, and its children follow p
 pub record Opened (es : List Entry) (p : Pattern) (s : List ℕ) (at k d : ℕ) : Type 0 where
   pub fits : at + after es 6 ≤ stopOf s at
   pub valid : Valid es s at 6
@@ -233,27 +235,24 @@ pub record Opened (es : List Entry) (p : Pattern) (s : List ℕ) (at k d : ℕ) 
   pub kids : Kids p s (at + after es 6) (stopOf s at) (d - 1)
 
 pub opened : {a c : Class} {s : List ℕ} {at k d : ℕ} (es : List Entry) (p : Pattern) → rowIn k rows ≡ row a (map single es ++ []) p → Ready c s at d → kindOf s at ≡ k → Opened es p s at k d
-unfolding valuesOf rowFields pastAll readValues
-opened {a} {c} {s} {at} {k} {d} es p q r e =
+unfolding rowFields pastAll readValues
+opened {s = s} {at = at} {d = d} es p q r e =
     let n = r .node-at in
-    let w : row (n .class) (n .fields) (n .pattern) ≡ row a (map single es ++ []) p = sym (n .head .is) ∙ (ap (λ (i : ℕ). rowIn i rows) e ∙ q) in
-    let f : n .fields ≡ map single es ++ [] = ap rowFields w in
+    let E : Entries es [] s at = entries n es [] e (ap rowFields q) in
+    let w = sym q ∙ row-is n e in
     let g : n .pattern ≡ p = cc in
-    let b : bodyOf s at ≡ pastAll (map single es ++ []) s (stopOf s at) (at + 6) = rw f at (n .head .body-is) in
-    let S : Singles es [] s (stopOf s at) at 6 = singles es [] s (stopOf s at) at 6 (λ z. omega (arith, b, n .head .low, z)) in
-    let i : bodyOf s at ≡ at + after es 6 = b ∙ S .past in
-    let v : valuesOf s at ≡ itemsFrom es s at 6 ++ [] = ap (λ (l : List Field). readValues l s (stopOf s at) (at + 6)) (ap rowFields (n .head .is) ∙ f) ∙ S .values in
     record {
-      fits = S .fits (omega (arith, n .head .low, n .head .mid));
-      valid = S .valid;
-      tree = λ j. node at (e j) (v j) (readRecords s (i j) (stopOf s at));
-      kids = subst (λ (x : ℕ). Kids p s x (stopOf s at) (d - 1)) i (subst (λ (x : Pattern). Kids x s (bodyOf s at) (stopOf s at) (d - 1)) g (kids-of r));
+      fits = E .fits;
+      valid = E .valid;
+      tree = λ j. node at (e j) (E .values j) (readRecords s (E .body j) (stopOf s at));
+      kids = subst (λ (x : ℕ). Kids p s x (stopOf s at) (d - 1)) (E .body) (subst (λ (x : Pattern). Kids x s (bodyOf s at) (stopOf s at) (d - 1)) g (kids-of r));
     }
 
 -- a record of a u16 and children
 pub record Named (m : ℕ) (p : Pattern) (s : List ℕ) (at k d : ℕ) : Type 0 where
   pub fits : at + 8 ≤ stopOf s at
   pub inside : stopOf s at ≤ length s
+  pub room : at + 8 ≤ length s
   pub name : le 2 s (at + 6) ≤ m
   pub tree : treeAt s at ≡ node at k (item (small (le 2 s (at + 6))) ∷ []) (readRecords s (at + 8) (stopOf s at))
   pub kids : Kids p s (at + 8) (stopOf s at) (d - 1)
@@ -262,7 +261,7 @@ pub named : {a c : Class} {s : List ℕ} {at k d : ℕ} (m : ℕ) (p : Pattern) 
 unfolding itemsFrom readItem okItem after sizeOf Valid
 named {s = s} {at = at} {k = k} {d = d} m p q r e =
     let o : Opened (upTo m ∷ []) p s at k d = opened (upTo m ∷ []) p q r e in
-    record { fits = o .fits; inside = bounds r .high; name = leb-true _ _ (o .valid .0); tree = o .tree; kids = o .kids }
+    record { fits = o .fits; inside = bounds r .high; room = omega (arith, o .fits, bounds r .high); name = leb-true _ _ (o .valid .0); tree = o .tree; kids = o .kids }
 
 -- a record of children only
 pub record Plain (p : Pattern) (s : List ℕ) (at k d : ℕ) : Type 0 where
@@ -283,6 +282,6 @@ Limited k = (v : List Value) (m d a b c : ℕ) → over k v m d a b c ≡ either
 pub few : {c : Class} {s : List ℕ} {at k d : ℕ} {v : List Value} {ts : Trees} → Limited k → Ready c s at d → treeAt s at ≡ node at k v ts → countTrees ts ≤ 16
 few {c} {s} {at} {k} {d} {v} {ts} l r e =
     let g : limitTree (node at k v ts) (r .depth) (r .storage) (r .structs) (r .functions) ≡ Good = ap (λ (t : Tree). limitTree t (r .depth) (r .storage) (r .structs) (r .functions)) (sym e) ∙ r .limit in
-    let o = limit-inside k v ts at (r .depth) (r .storage) (r .structs) (r .functions) g .0 in
-    let h : countTrees ts < 17 = leb-false 17 (countTrees ts) (either-false (leb 41 (r .depth)) (leb 17 (countTrees ts)) (sym (l v (countTrees ts) _ _ _ _) ∙ o) .1) in
+    let o = tree-within at k v ts (r .depth) (r .storage) (r .structs) (r .functions) g .0 in
+    let h : countTrees ts < 17 = leb-false 17 (countTrees ts) (either-no (leb 41 (r .depth)) (leb 17 (countTrees ts)) (sym (l v (countTrees ts) _ _ _ _) ∙ o) .1) in
     omega arith

@@ -7,8 +7,8 @@ use lib.Dec.{lit≤}
 use lib.ListN.{length}
 use Rattle.definitions.specs.Fields.{le}
 use Rattle.definitions.specs.Ast.{Expr, FieldInits}
-use Rattle.definitions.specs.Grammar.{Class, number, Field, Pattern, done, one, many, rows}
-use Rattle.definitions.specs.Records.{rowIn, small, item, readItem, sizeOf, node, Trees, tnil, tcons, readRecords}
+use Rattle.definitions.specs.Grammar.{Class, upTo, number, single, Field, Pattern, done, one, many, rows}
+use Rattle.definitions.specs.Records.{row, rowIn, small, item, readItem, sizeOf, Tree, node, Trees, tnil, tcons, readRecords}
 use Rattle.definitions.specs.ContractSheet.{opOf, exprOf, exprsOf, fieldInitsOf, countTrees, over}
 use Rattle.definitions.specs.Lower.{count}
 use Rattle.definitions.proofs.Sheets.Lines.{OfRows, Given, by-lines}
@@ -52,6 +52,61 @@ last-rows =
 pub last-kind : {s : List ℕ} {at d : ℕ} → Ready Class.expression s at d → Last (kindOf s at)
 last-kind r = by-row Ends last-rows r
 
+-- A RECORD READ BY `of`: an expression or a statement that has a name, perhaps one expression, or at most 16 of them
+pub count-is : (ts : Trees) → count (exprsOf ts) ≡ countTrees ts
+unfolding exprOf countTrees
+count-is tnil = refl
+count-is (tcons t ts) = ap suc (count-is ts)
+
+pub record NameAt {A : Type 0} (s : List ℕ) (at : ℕ) (t x : A) : Type 0 where
+  pub fits : at + 8 ≤ length s
+  pub name : le 2 s (at + 6) ≤ 65534
+  pub is : t ≡ x
+
+pub record OneAt {A : Type 0} (s : List ℕ) (at d : ℕ) (t x : A) : Type 0 where
+  pub fits : at + 8 ≤ length s
+  pub name : le 2 s (at + 6) ≤ 65534
+  pub value : Ready Class.expression s (at + 8) (d - 1)
+  pub stop : stopOf s (at + 8) ≡ stopOf s at
+  pub is : t ≡ x
+
+pub record ArgsAt {A : Type 0} (s : List ℕ) (at d : ℕ) (t x : A) : Type 0 where
+  pub fits : at + 8 ≤ stopOf s at
+  pub inside : stopOf s at ≤ length s
+  pub name : le 2 s (at + 6) ≤ 65534
+  pub args : ReadyAll Class.expression s (at + 8) (stopOf s at) (d - 1)
+  pub few : countTrees (readRecords s (at + 8) (stopOf s at)) ≤ 16
+  pub count-is : count (exprsFrom s (at + 8) (stopOf s at)) ≡ countTrees (readRecords s (at + 8) (stopOf s at))
+  pub is : t ≡ x
+
+module _ {A : Type 0} {c : Class} {s : List ℕ} {at k d : ℕ} (of : Tree → A) (r : Ready c s at d) (e : kindOf s at ≡ k) where
+  -- the tree of such a record, with the children ts
+  abbrev with : Trees → Tree
+  with ts = node at k (item (small (le 2 s (at + 6))) ∷ []) ts
+
+  name-at : {a : Class} → rowIn k rows ≡ row a (single (upTo 65534) ∷ []) done → NameAt s at (of (treeAt s at)) (of (with (readRecords s (at + 8) (stopOf s at))))
+  name-at q = let n = named 65534 done q r e in record { fits = n .room; name = n .name; is = ap of (n .tree) }
+
+  pub one-at : {a : Class} → rowIn k rows ≡ row a (single (upTo 65534) ∷ []) (one Class.expression done) → OneAt s at d (of (treeAt s at)) (of (with (tcons (treeAt s (at + 8)) tnil)))
+  one-at q =
+      let n = named 65534 (one Class.expression done) q r e in
+      let f : First Class.expression done s (at + 8) (stopOf s at) (d - 1) = one-first (n .kids) in
+      let z = nothing-left (f .rest) in
+      record { fits = n .room; name = n .name; value = f .ready; stop = z .0; is = ap of (n .tree ∙ ap with (f .is ∙ ap (tcons (treeAt s (at + 8))) (z .1))) }
+
+  pub args-at : {a : Class} → rowIn k rows ≡ row a (single (upTo 65534) ∷ []) (many Class.expression done) → Limited k → ArgsAt s at d (of (treeAt s at)) (of (with (readRecords s (at + 8) (stopOf s at))))
+  args-at q l =
+      let n = named 65534 (many Class.expression done) q r e in
+      record {
+        fits = n .fits;
+        inside = n .inside;
+        name = n .name;
+        args = all-of (n .kids);
+        few = few l r (n .tree);
+        count-is = count-is (readRecords s (at + 8) (stopOf s at));
+        is = ap of (n .tree);
+      }
+
 -- 30: a number
 pub record IntAt (s : List ℕ) (at : ℕ) : Type 0 where
   pub fits : at + 14 ≤ length s
@@ -64,46 +119,22 @@ int-at {s} {at} {d} r e =
     record { fits = omega (arith, o .fits, bounds r .high); is = ap exprOf (o .tree) }
 
 -- 31, 32: a name
-pub record NameAt (s : List ℕ) (at : ℕ) (x : Expr) : Type 0 where
-  pub fits : at + 8 ≤ length s
-  pub name : le 2 s (at + 6) ≤ 65534
-  pub is : exprAt s at ≡ x
-
-pub ident-at : {s : List ℕ} {at d : ℕ} → Ready Class.expression s at d → kindOf s at ≡ 31 → NameAt s at (Expr.Ident at (le 2 s (at + 6)))
+pub ident-at : {s : List ℕ} {at d : ℕ} → Ready Class.expression s at d → kindOf s at ≡ 31 → NameAt s at (exprAt s at) (Expr.Ident at (le 2 s (at + 6)))
 unfolding rowIn rows exprOf
-ident-at r e = let n = named 65534 done refl r e in record { fits = omega (arith, n .fits, n .inside); name = n .name; is = ap exprOf (n .tree) }
+ident-at r e = name-at exprOf r e refl
 
-pub storage-at : {s : List ℕ} {at d : ℕ} → Ready Class.expression s at d → kindOf s at ≡ 32 → NameAt s at (Expr.StorageRead at (le 2 s (at + 6)))
+pub storage-at : {s : List ℕ} {at d : ℕ} → Ready Class.expression s at d → kindOf s at ≡ 32 → NameAt s at (exprAt s at) (Expr.StorageRead at (le 2 s (at + 6)))
 unfolding rowIn rows exprOf
-storage-at r e = let n = named 65534 done refl r e in record { fits = omega (arith, n .fits, n .inside); name = n .name; is = ap exprOf (n .tree) }
+storage-at r e = name-at exprOf r e refl
 
 -- 33, 34: a name and an expression
-pub record OneAt (s : List ℕ) (at d : ℕ) (x : Expr) : Type 0 where
-  pub fits : at + 8 ≤ length s
-  pub name : le 2 s (at + 6) ≤ 65534
-  pub first : Ready Class.expression s (at + 8) (d - 1)
-  pub stop : stopOf s (at + 8) ≡ stopOf s at
-  pub is : exprAt s at ≡ x
-
-one-at : {s : List ℕ} {at k d : ℕ} {x : Expr} → Named 65534 (one Class.expression done) s at k d → (exprAt s at ≡ exprOf (node at k (item (small (le 2 s (at + 6))) ∷ []) (tcons (treeAt s (at + 8)) tnil)) → exprAt s at ≡ x) → OneAt s at d x
-one-at {s} {at} {k} {d} n h =
-    let f : First Class.expression done s (at + 8) (stopOf s at) (d - 1) = one-first (n .kids) in
-    let z = nothing-left (f .rest) in
-    record {
-      fits = omega (arith, n .fits, n .inside);
-      name = n .name;
-      first = f .ready;
-      stop = z .0;
-      is = h (ap exprOf (n .tree ∙ ap (node at k (item (small (le 2 s (at + 6))) ∷ [])) (f .is ∙ ap (tcons (treeAt s (at + 8))) (z .1))));
-    }
-
-pub mapping-at : {s : List ℕ} {at d : ℕ} → Ready Class.expression s at d → kindOf s at ≡ 33 → OneAt s at d (Expr.MappingRead at (le 2 s (at + 6)) (exprAt s (at + 8)))
+pub mapping-at : {s : List ℕ} {at d : ℕ} → Ready Class.expression s at d → kindOf s at ≡ 33 → OneAt s at d (exprAt s at) (Expr.MappingRead at (le 2 s (at + 6)) (exprAt s (at + 8)))
 unfolding rowIn rows exprOf
-mapping-at r e = one-at (named 65534 (one Class.expression done) refl r e) (λ i. i)
+mapping-at r e = one-at exprOf r e refl
 
-pub access-at : {s : List ℕ} {at d : ℕ} → Ready Class.expression s at d → kindOf s at ≡ 34 → OneAt s at d (Expr.FieldAccess at (le 2 s (at + 6)) (exprAt s (at + 8)))
+pub access-at : {s : List ℕ} {at d : ℕ} → Ready Class.expression s at d → kindOf s at ≡ 34 → OneAt s at d (exprAt s at) (Expr.FieldAccess at (le 2 s (at + 6)) (exprAt s (at + 8)))
 unfolding rowIn rows exprOf
-access-at r e = one-at (named 65534 (one Class.expression done) refl r e) (λ i. i)
+access-at r e = one-at exprOf r e refl
 
 -- 35: a struct literal
 pub record StructAt (s : List ℕ) (at : ℕ) : Type 0 where
@@ -117,7 +148,7 @@ unfolding rowIn rows exprOf
 struct-at {s} {at} r e =
     let n = named 65534 (many Class.fieldInit done) refl r e in
     let ts : Trees = readRecords s (at + 8) (stopOf s at) in
-    record { fits = omega (arith, n .fits, n .inside); name = n .name; inits = fieldInitsOf ts (exprsOf ts); is = ap exprOf (n .tree) }
+    record { fits = n .room; name = n .name; inits = fieldInitsOf ts (exprsOf ts); is = ap exprOf (n .tree) }
 
 -- 36: an operator and two expressions
 pub record BinaryAt (s : List ℕ) (at d : ℕ) : Type 0 where
@@ -135,7 +166,7 @@ binary-at {s} {at} {d} r e =
     let f : First Class.expression (one Class.expression done) s (at + 8) (stopOf s at) (d - 1) = one-first (n .kids) in
     let g : First Class.expression done s (stopOf s (at + 8)) (stopOf s at) (d - 1) = one-first (f .rest) in
     record {
-      fits = omega (arith, n .fits, n .inside);
+      fits = n .room;
       operator = n .name;
       first = f .ready;
       second = g .ready;
@@ -143,32 +174,10 @@ binary-at {s} {at} {d} r e =
       is = ap exprOf (n .tree ∙ ap (node at 36 (item (small (le 2 s (at + 6))) ∷ [])) (f .is ∙ ap (tcons (treeAt s (at + 8))) (g .is)));
     }
 
--- 37: a name and expressions, 16 at the most
-pub count-is : (ts : Trees) → count (exprsOf ts) ≡ countTrees ts
-unfolding exprOf countTrees
-count-is tnil = refl
-count-is (tcons t ts) = ap suc (count-is ts)
-
-pub record CallAt (s : List ℕ) (at d : ℕ) : Type 0 where
-  pub fits : at + 8 ≤ stopOf s at
-  pub inside : stopOf s at ≤ length s
-  pub name : le 2 s (at + 6) ≤ 65534
-  pub args : ReadyAll Class.expression s (at + 8) (stopOf s at) (d - 1)
-  pub few : countTrees (readRecords s (at + 8) (stopOf s at)) ≤ 16
-  pub count-is : count (exprsFrom s (at + 8) (stopOf s at)) ≡ countTrees (readRecords s (at + 8) (stopOf s at))
-  pub is : exprAt s at ≡ Expr.Call at (le 2 s (at + 6)) (exprsFrom s (at + 8) (stopOf s at))
+-- 37: a name and expressions
+abbrev pub CallAt : List ℕ → ℕ → ℕ → Type 0
+CallAt s at d = ArgsAt s at d (exprAt s at) (Expr.Call at (le 2 s (at + 6)) (exprsFrom s (at + 8) (stopOf s at)))
 
 pub call-at : {s : List ℕ} {at d : ℕ} → Ready Class.expression s at d → kindOf s at ≡ 37 → CallAt s at d
 unfolding rowIn rows exprOf over
-call-at {s} {at} {d} r e =
-    let n : Named 65534 (many Class.expression done) s at 37 d = named 65534 (many Class.expression done) refl r e in
-    let l : Limited 37 = (λ v m d a b c. refl) in
-    record {
-      fits = n .fits;
-      inside = n .inside;
-      name = n .name;
-      args = all-of (n .kids);
-      few = few l r (n .tree);
-      count-is = count-is (readRecords s (at + 8) (stopOf s at));
-      is = ap exprOf (n .tree);
-    }
+call-at r e = args-at exprOf r e refl (λ v m d a b c. refl)

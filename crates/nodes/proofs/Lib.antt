@@ -1,4 +1,5 @@
 pub mod Children
 pub mod Exprs
+pub mod Order
 pub mod Stmts
 pub mod Tops

@@ -11,13 +11,12 @@ use Rattle.definitions.specs.Fields.{le}
 use Rattle.definitions.specs.Ast.{Expr, Exprs, econs, absent, present, Stmt, OptStmts, noElse, elseDo}
 use Rattle.definitions.specs.Grammar.{Class, Field, Pattern, done, one, perhaps, many, rows}
 use Rattle.definitions.specs.Records.{rowIn, small, item, node, Trees, tcons, readRecords}
-use Rattle.definitions.specs.ContractSheet.{firstE, restE, exprsOf, noBlock, andBlock, optB, stmtFrom, stmtOf, blocksOf, countTrees, over}
-use Rattle.definitions.specs.Lower.{count}
+use Rattle.definitions.specs.ContractSheet.{firstE, restE, exprsOf, noBlock, andBlock, optB, stmtFrom, stmtOf, blocksOf, over}
 use Rattle.definitions.proofs.Sheets.Lines.{OfRows, Given, by-lines}
 use Rattle.sheet.specs.Passed.{kindOf, stopOf}
 use Rattle.nodes.specs.Ready.{treeAt, exprAt, exprsFrom, stmtAt, stmtsFrom, Ready, ReadyAll}
-use Rattle.nodes.proofs.Children.{First, all-of, one-first, perhaps-next, last-first, nothing-left, at-end, bounds, by-row, Named, named, Plain, plain, Limited, few}
-use Rattle.nodes.proofs.Exprs.{expr-kinds, count-is}
+use Rattle.nodes.proofs.Children.{First, all-of, one-first, perhaps-next, last-first, nothing-left, at-end, bounds, by-row, Named, named, Plain, plain}
+use Rattle.nodes.proofs.Exprs.{expr-kinds, OneAt, ArgsAt, one-at, args-at}
 
 -- WHICH KINDS
 abbrev Kinds : Class → ℕ → List Field → Pattern → Type 0
@@ -59,36 +58,17 @@ pub last-kind : {s : List ℕ} {at d : ℕ} → Ready Class.statement s at d →
 last-kind r = by-row Ends last-rows r
 
 -- A NAME AND AN EXPRESSION: Let, Assign, StorageWrite
-pub record NamedAt (s : List ℕ) (at d : ℕ) (x : Stmt) : Type 0 where
-  pub fits : at + 8 ≤ length s
-  pub name : le 2 s (at + 6) ≤ 65534
-  pub value : Ready Class.expression s (at + 8) (d - 1)
-  pub stop : stopOf s (at + 8) ≡ stopOf s at
-  pub is : stmtAt s at ≡ x
-
-named-at : {s : List ℕ} {at d : ℕ} (k : ℕ) {x : Stmt} → Named 65534 (one Class.expression done) s at k d
-    → ((ts : Trees) → stmtOf (node at k (item (small (le 2 s (at + 6))) ∷ []) (tcons (treeAt s (at + 8)) ts)) ≡ x) → NamedAt s at d x
-named-at {s} {at} {d} k n h =
-    let f : First Class.expression done s (at + 8) (stopOf s at) (d - 1) = one-first (n .kids) in
-    record {
-      fits = omega (arith, n .fits, n .inside);
-      name = n .name;
-      value = f .ready;
-      stop = nothing-left (f .rest) .0;
-      is = ap stmtOf (n .tree ∙ ap (node at k (item (small (le 2 s (at + 6))) ∷ [])) (f .is)) ∙ h (readRecords s (stopOf s (at + 8)) (stopOf s at));
-    }
-
-pub let-at : {s : List ℕ} {at d : ℕ} → Ready Class.statement s at d → kindOf s at ≡ 10 → NamedAt s at d (Stmt.Let at (le 2 s (at + 6)) (exprAt s (at + 8)))
+pub let-at : {s : List ℕ} {at d : ℕ} → Ready Class.statement s at d → kindOf s at ≡ 10 → OneAt s at d (stmtAt s at) (Stmt.Let at (le 2 s (at + 6)) (exprAt s (at + 8)))
 unfolding rowIn rows stmtOf
-let-at r e = named-at 10 (named 65534 (one Class.expression done) refl r e) (λ ts. refl)
+let-at r e = one-at stmtOf r e refl
 
-pub assign-at : {s : List ℕ} {at d : ℕ} → Ready Class.statement s at d → kindOf s at ≡ 12 → NamedAt s at d (Stmt.Assign at (le 2 s (at + 6)) (exprAt s (at + 8)))
+pub assign-at : {s : List ℕ} {at d : ℕ} → Ready Class.statement s at d → kindOf s at ≡ 12 → OneAt s at d (stmtAt s at) (Stmt.Assign at (le 2 s (at + 6)) (exprAt s (at + 8)))
 unfolding rowIn rows stmtOf
-assign-at r e = named-at 12 (named 65534 (one Class.expression done) refl r e) (λ ts. refl)
+assign-at r e = one-at stmtOf r e refl
 
-pub write-at : {s : List ℕ} {at d : ℕ} → Ready Class.statement s at d → kindOf s at ≡ 13 → NamedAt s at d (Stmt.StorageWrite at (le 2 s (at + 6)) (exprAt s (at + 8)))
+pub write-at : {s : List ℕ} {at d : ℕ} → Ready Class.statement s at d → kindOf s at ≡ 13 → OneAt s at d (stmtAt s at) (Stmt.StorageWrite at (le 2 s (at + 6)) (exprAt s (at + 8)))
 unfolding rowIn rows stmtOf
-write-at r e = named-at 13 (named 65534 (one Class.expression done) refl r e) (λ ts. refl)
+write-at r e = one-at stmtOf r e refl
 
 -- AN EXPRESSION: Constrain, ExprStmt
 pub record PlainAt (s : List ℕ) (at d : ℕ) (x : Stmt) : Type 0 where
@@ -96,18 +76,17 @@ pub record PlainAt (s : List ℕ) (at d : ℕ) (x : Stmt) : Type 0 where
   pub stop : stopOf s (at + 6) ≡ stopOf s at
   pub is : stmtAt s at ≡ x
 
-plain-at : {s : List ℕ} {at d : ℕ} (k : ℕ) {x : Stmt} → Plain (one Class.expression done) s at k d → ((ts : Trees) → stmtOf (node at k [] (tcons (treeAt s (at + 6)) ts)) ≡ x) → PlainAt s at d x
-plain-at {s} {at} {d} k n h =
-    let f : First Class.expression done s (at + 6) (stopOf s at) (d - 1) = one-first (n .kids) in
-    record { value = f .ready; stop = nothing-left (f .rest) .0; is = ap stmtOf (n .tree ∙ ap (node at k []) (f .is)) ∙ h (readRecords s (stopOf s (at + 6)) (stopOf s at)) }
+plain-at : {s : List ℕ} {at k d : ℕ} {p : Pattern} → Plain p s at k d → First Class.expression done s (at + 6) (stopOf s at) (d - 1)
+    → PlainAt s at d (stmtOf (node at k [] (tcons (treeAt s (at + 6)) (readRecords s (stopOf s (at + 6)) (stopOf s at)))))
+plain-at {at = at} {k = k} n f = record { value = f .ready; stop = nothing-left (f .rest) .0; is = ap stmtOf (n .tree ∙ ap (node at k []) (f .is)) }
 
 pub constrain-at : {s : List ℕ} {at d : ℕ} → Ready Class.statement s at d → kindOf s at ≡ 11 → PlainAt s at d (Stmt.Constrain at (exprAt s (at + 6)))
 unfolding rowIn rows stmtOf
-constrain-at r e = plain-at 11 (plain (one Class.expression done) refl r e) (λ ts. refl)
+constrain-at r e = let n = plain (one Class.expression done) refl r e in plain-at n (one-first (n .kids))
 
 pub expr-stmt-at : {s : List ℕ} {at d : ℕ} → Ready Class.statement s at d → kindOf s at ≡ 20 → PlainAt s at d (Stmt.ExprStmt at (exprAt s (at + 6)))
 unfolding rowIn rows stmtOf
-expr-stmt-at r e = plain-at 20 (plain (one Class.expression done) refl r e) (λ ts. refl)
+expr-stmt-at r e = let n = plain (one Class.expression done) refl r e in plain-at n (one-first (n .kids))
 
 -- 14: MappingWrite
 pub record MappingAt (s : List ℕ) (at : ℕ) : Type 0 where
@@ -121,16 +100,11 @@ unfolding rowIn rows stmtOf
 mapping-at {s} {at} r e =
     let n = named 65534 (one Class.expression (one Class.expression done)) refl r e in
     let es : Exprs = exprsFrom s (at + 8) (stopOf s at) in
-    record { fits = omega (arith, n .fits, n .inside); key = firstE es; value = firstE (restE es); is = ap stmtOf (n .tree) }
+    record { fits = n .room; key = firstE es; value = firstE (restE es); is = ap stmtOf (n .tree) }
 
 -- 18: Return, with a value or with none
-pub record Returned (s : List ℕ) (at d : ℕ) : Type 0 where
-  pub value : Ready Class.expression s (at + 6) (d - 1)
-  pub stop : stopOf s (at + 6) ≡ stopOf s at
-  pub is : stmtAt s at ≡ Stmt.Return at (present (exprAt s (at + 6)))
-
 pub record ReturnAt (s : List ℕ) (at d : ℕ) : Type 0 where
-  pub some : at + 6 < stopOf s at → Returned s at d
+  pub some : at + 6 < stopOf s at → PlainAt s at d (Stmt.Return at (present (exprAt s (at + 6))))
   pub none : stopOf s at ≤ at + 6 → stmtAt s at ≡ Stmt.Return at absent
 
 pub return-at : {s : List ℕ} {at d : ℕ} → Ready Class.statement s at d → kindOf s at ≡ 18 → ReturnAt s at d
@@ -138,36 +112,14 @@ unfolding rowIn rows stmtOf
 return-at {s} {at} {d} r e =
     let n : Plain (perhaps Class.expression done) s at 18 d = plain (perhaps Class.expression done) refl r e in
     record {
-      some = λ h.
-          let f : First Class.expression done s (at + 6) (stopOf s at) (d - 1) = last-first (perhaps-next (n .kids)) h in
-          record { value = f .ready; stop = nothing-left (f .rest) .0; is = ap stmtOf (n .tree ∙ ap (node at 18 []) (f .is)) };
+      some = λ h. plain-at n (last-first (perhaps-next (n .kids)) h);
       none = λ h. let z : at + 6 ≡ stopOf s at = omega (arith, bounds r .low) in ap stmtOf (n .tree ∙ ap (node at 18 []) (at-end s z));
     }
 
 -- 19: Emit, with at most 16 expressions
-pub record EmitAt (s : List ℕ) (at d : ℕ) : Type 0 where
-  pub fits : at + 8 ≤ stopOf s at
-  pub inside : stopOf s at ≤ length s
-  pub name : le 2 s (at + 6) ≤ 65534
-  pub args : ReadyAll Class.expression s (at + 8) (stopOf s at) (d - 1)
-  pub few : countTrees (readRecords s (at + 8) (stopOf s at)) ≤ 16
-  pub count-is : count (exprsFrom s (at + 8) (stopOf s at)) ≡ countTrees (readRecords s (at + 8) (stopOf s at))
-  pub is : stmtAt s at ≡ Stmt.Emit at (le 2 s (at + 6)) (exprsFrom s (at + 8) (stopOf s at))
-
-pub emit-at : {s : List ℕ} {at d : ℕ} → Ready Class.statement s at d → kindOf s at ≡ 19 → EmitAt s at d
+pub emit-at : {s : List ℕ} {at d : ℕ} → Ready Class.statement s at d → kindOf s at ≡ 19 → ArgsAt s at d (stmtAt s at) (Stmt.Emit at (le 2 s (at + 6)) (exprsFrom s (at + 8) (stopOf s at)))
 unfolding rowIn rows stmtOf over
-emit-at {s} {at} {d} r e =
-    let n : Named 65534 (many Class.expression done) s at 19 d = named 65534 (many Class.expression done) refl r e in
-    let l : Limited 19 = (λ v m d a b c. refl) in
-    record {
-      fits = n .fits;
-      inside = n .inside;
-      name = n .name;
-      args = all-of (n .kids);
-      few = few l r (n .tree);
-      count-is = count-is (readRecords s (at + 8) (stopOf s at));
-      is = ap stmtOf (n .tree);
-    }
+emit-at r e = args-at stmtOf r e refl (λ v m d a b c. refl)
 
 -- BLOCKS among a statement's children: an expression is none; a block has its place and its statements
 abbrev IsBlock : Class → ℕ → List Field → Pattern → Type 0
@@ -274,7 +226,7 @@ for-at {s} {at} {d} r e =
     let bs = ap blocksOf (f .is) ∙ (no-block (f .ready) (readRecords s q (stopOf s at)) ∙ (ap blocksOf (g .is) ∙ (no-block (g .ready) (readRecords s p (stopOf s at)) ∙ b .is))) in
     record {
       deep = b .deep;
-      fits = omega (arith, n .fits, n .inside);
+      fits = n .room;
       inside = n .inside;
       name = n .name;
       start = f .ready;

@@ -3,11 +3,12 @@
 use Prim.Native.Nat.{ℕ, zero, suc, _+_, _<_, _≤_}
 use mathlib.Core.Path.{_≡_}
 use mathlib.Core.List.{List, [], _∷_}
+use lib.Dec.{eqb}
 use lib.ListN.{length}
 use Rattle.definitions.specs.Fields.{le}
 use Rattle.definitions.specs.Ast.{Expr, Exprs, Stmt, Stmts, Param, Function, Contract}
 use Rattle.definitions.specs.Grammar.{Class, many, done}
-use Rattle.definitions.specs.Records.{Tree, node, Trees, readRecords, Good}
+use Rattle.definitions.specs.Records.{pick, Tree, node, Trees, readRecords, Good}
 use Rattle.definitions.specs.ContractSheet.{refusal3, refusal4, limitTree, limitTrees, exprOf, exprsOf, stmtOf, stmtsOf, functionOf, readContract}
 use Rattle.definitions.proofs.Sheets.Passed.{Fine}
 use Rattle.sheet.specs.Passed.{kindOf, stopOf, bodyOf, valuesOf, childrenOf}
@@ -36,6 +37,10 @@ functionAt s at = functionOf (treeAt s at)
 unfoldable pub paramsFrom : List ℕ → (at n : ℕ) → List Param
 paramsFrom s at zero = []
 paramsFrom s at (suc n) = record { name = le 2 s at; ty = le 2 s (at + 2) } ∷ paramsFrom s (at + 4) n
+
+-- the class of a kind of record of the contract: 2, 3 or 4
+abbrev pub topClass : ℕ → Class
+topClass k = pick (eqb k 2) Class.storage (pick (eqb k 3) Class.struct Class.function)
 
 -- a record of the class c stands at `at`, and its depth is 41 less d
 pub record Ready (c : Class) (s : List ℕ) (at d : ℕ) : Type 0 where

@@ -35,7 +35,7 @@ fn read_head() -> Head {
     }
     Head {
         asked: head[0],
-        length: fields::read(&head, 1, 4),
+        length: reader::read(&head, 1, 4),
     }
 }
 

@@ -1,7 +1,7 @@
 -- The record that stands at a place of a sheet that passed, as the reader gives it. Assumes nothing.
 use mathlib.Core.Path.{_≡_, sym, ap, _∙_}
 use mathlib.Core.List.{List}
-use Prim.Native.Nat.{ℕ, _+_, _-_, _<_, _≤_}
+use Prim.Native.Nat.{ℕ, _+_, _<_, _≤_}
 use native.Mathlib.Omega.{arith}
 use Rattle.definitions.specs.Grammar.{Class, Field, Pattern, rows}
 use Rattle.definitions.specs.Records.{rowIn, rowFields, readValues, node, tcons, readRecords}
@@ -18,10 +18,9 @@ pub record Node (s : List ℕ) (at end : ℕ) : Type 0 where
   pub rest : Passed s (stopOf s at) end
   pub is : readRecords s at end ≡ tcons (node at (kindOf s at) (valuesOf s at) (childrenOf s at)) (readRecords s (stopOf s at) end)
 
-opened : {s : List ℕ} {at end : ℕ} {q : Pattern} → Fine s at end q → at < end → Node s at end
+unfoldable pub node-of : {c : Class} {fs : List Field} {p r : Pattern} {s : List ℕ} {at end b stop : ℕ} → Head s at end c fs p b stop → Fine s b stop p → Fine s stop end r → Node s at end
 unfolding bodyOf valuesOf rowFields
-opened (ends z m) h = absurd (omega arith)
-opened {s} {at} {end} (goes {b = b} {stop = stop} {p = p} {c = c} {fs = fs} hd a kids rest) h =
+node-of {c} {fs} {p} {r} {s} {at} {end} {b} {stop} hd kids rest =
     let f : rowFields (rowIn (kindOf s at) rows) ≡ fs = ap rowFields (hd .is) in
     let e : stop ≡ stopOf s at = hd .stop-is in
     let g : b ≡ bodyOf s at = rw (f, ← e) (hd .body-is) in
@@ -32,9 +31,13 @@ opened {s} {at} {end} (goes {b = b} {stop = stop} {p = p} {c = c} {fs = fs} hd a
       pattern = p;
       head = rw (g, e) at hd;
       kids = rw (g, e) at kids;
-      rest = record { pattern = _; fine = rw e at rest };
+      rest = record { pattern = r; fine = rw e at rest };
       is = rw (v, g, e) at (read-step hd kids rest);
     }
+
+opened : {s : List ℕ} {at end : ℕ} {q : Pattern} → Fine s at end q → at < end → Node s at end
+opened (ends z m) h = absurd (omega arith)
+opened (goes hd a kids rest) h = node-of hd kids rest
 
 pub opens : {s : List ℕ} {at end : ℕ} → Passed s at end → at < end → Node s at end
 opens p h = opened (p .fine) h

@@ -7,7 +7,7 @@ ghost use Rattle.definitions.specs.Fields.{le};
 ghost use Rattle.definitions.specs.Grammar.{upTo, irType, single, counted, listed};
 ghost use Rattle.definitions.specs.Records.{pick, sizeOf, okType, okItem, okItems, past, pastAll};
 ghost use Rattle.sheet.specs.Codes.{fieldOf, fieldsOf, entryOf};
-use fields::read;
+use reader::read;
 
 // A name or an id: 65,535 is none.
 fn name_valid(s: &[u8], at: usize) -> bool

@@ -11,7 +11,7 @@ ghost use Rattle.sheet.specs.Passed.{Passed, Standing, valuesOf, childre
 use crate::Form;
 use crate::places::body_of;
 use crate::places::count;
-use fields::read;
+use reader::read;
 
 // Whether a record is one too many, after so many storage fields, structs and functions.
 fn too_many(kind: usize, storage: usize, structs: usize, functions: usize) -> bool

@@ -7,7 +7,7 @@ ghost use Rattle.definitions.specs.Records.{readRecords};
 ghost use Rattle.definitions.specs.ContractSheet.{countTrees};
 ghost use Rattle.sheet.specs.Passed.{Passed, Standing, bodyOf};
 use crate::tables::row_of;
-use fields::read;
+use reader::read;
 
 // The place after a count and so many entries of a size.
 fn past_list(s: &[u8], at: usize, size: usize) -> usize

@@ -9,7 +9,7 @@ ghost use Rattle.sheet.specs.Forms.{formOf};
 use crate::Form;
 use crate::entries::past_fields;
 use crate::tables::row_of;
-use fields::read;
+use reader::read;
 
 // No pattern: what is left of one that does not allow a record.
 const REFUSED: usize = 0xff;

@@ -1,5 +1,5 @@
 -- What is kept from one step of lowering to the next, and what a variant that a call gave means. Assumes nothing.
-use Prim.Native.Nat.{ℕ}
+use Prim.Native.Nat.{ℕ, _≤_}
 use mathlib.Core.Path.{_≡_, ap, sym, _∙_, subst}
 use mathlib.Core.List.{List}
 use native.Mathlib.Omega.{arith}
@@ -49,6 +49,10 @@ blocks-told f q = subst (λ (m : Made). BlocksMade f m) q
 
 pub local-told : (f : Flow) {r s : Made} → r ≡ s → LocalMade f r → LocalMade f s
 local-told f q = subst (λ (m : Made). LocalMade f m) q
+
+-- they stand after any step
+pub blocks-kept : {f g h : Flow} {n : ℕ} → Grown f g × (n ≤ g .block) → Grown g h → Grown f h × (n ≤ h .block)
+blocks-kept m o = (grown-on (m .0) o, omega (arith, m .1, o .blocks))
 
 -- a part's growth is the whole's
 pub blocks-on : {f g : Flow} → Grown f g → (r : Made) → BlocksMade g r → BlocksMade f r

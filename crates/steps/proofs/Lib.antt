@@ -1,4 +1,3 @@
-pub mod ArgSteps
 pub mod ControlSteps
 pub mod FlowSteps
 pub mod SimpleSteps

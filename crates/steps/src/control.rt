@@ -11,7 +11,6 @@ ghost use Rattle.walk.specs.Stmts.{enterIf, enterWhile, forLocals, forHeader, f
 ghost use Rattle.flow.specs.Flows.{ctxIn, madeIn, whileHeader, twoLocals, forNext, Sound, Grown, BlocksMade, BoundsMade};
 use exprs::Valued;
 use exprs::lower_expr_value;
-use fields::read;
 use flow::Flow;
 use flow::Made;
 use flow::blocks::after;
@@ -25,6 +24,7 @@ use ir::FunctionId;
 use ir::IrType;
 use ir::LocalId;
 use ir::ValueId;
+use reader::read;
 
 // If: the condition at a place, the blocks and the branch; the then block is open.
 pub fn enter_if(

@@ -13,8 +13,6 @@ use exprs::Lowered;
 use exprs::Valued;
 use exprs::lower_expr;
 use exprs::lower_expr_value;
-use fields::read;
-use fields::read_u16;
 use flow::Flow;
 use flow::Made;
 use flow::Stepped;
@@ -27,6 +25,8 @@ use ir::Name;
 use names::Held;
 use names::LoweringError;
 use names::Slot;
+use reader::read;
+use reader::read_u16;
 
 // Let: the expression, then its local; the name is held from then on.
 pub fn lower_let(

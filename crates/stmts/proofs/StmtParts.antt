@@ -1,19 +1,18 @@
 -- The parts of If, While and For at the places that the code computes. Assumes nothing.
 use Prim.Native.Nat.{ℕ, _+_, _-_, _<_, _≤_}
-use mathlib.Core.Path.{_≡_, refl, ap, sym, _∙_, subst}
+use mathlib.Core.Path.{_≡_, refl, ap, sym, _∙_}
 use mathlib.Core.List.{List}
 use native.Mathlib.Omega.{arith}
 use lib.ListN.{length}
 use Rattle.definitions.specs.Fields.{le}
 use Rattle.definitions.specs.Ast.{Stmt, OptStmts, noElse, elseDo, Contract}
 use Rattle.definitions.specs.Grammar.{Class}
-use Rattle.definitions.specs.Records.{mayEnd, readRecords, Trees, tnil}
-use Rattle.definitions.specs.ContractSheet.{limitTrees, stmtsOf, stmtOf}
+use Rattle.definitions.specs.Records.{readRecords, Trees, tnil}
+use Rattle.definitions.specs.ContractSheet.{stmtsOf, stmtOf}
 use Rattle.definitions.specs.Lower.{Scope}
-use Rattle.definitions.proofs.Sheets.Passed.{Fine}
 use Rattle.sheet.specs.Passed.{kindOf, stopOf}
 use Rattle.nodes.specs.Ready.{exprAt, stmtAt, stmtsFrom, Ready, ReadyAll}
-use Rattle.nodes.proofs.Children.{at-end}
+use Rattle.nodes.proofs.Children.{at-end, nothing-at}
 use Rattle.nodes.proofs.Stmts.{IfAt, ElseAt, if-at, WhileAt, while-at, ForAt, for-at}
 use Rattle.walk.specs.Stmts.{Ctx, walkStmts, walkElse}
 
@@ -31,10 +30,9 @@ pub record WhileParts (s : List ℕ) (at p e d : ℕ) : Type 0 where
   pub is : stmtAt s at ≡ Stmt.While at (exprAt s (at + 6)) p (stmtsFrom s (p + 6) e)
 
 pub while-parts : {s : List ℕ} {at p e d : ℕ} → Ready Class.statement s at d → kindOf s at ≡ 16 → p ≡ stopOf s (at + 6) → e ≡ stopOf s at → WhileParts s at p e d
-while-parts {s} {at} {p} {e} {d} r k hp he =
+while-parts {s} {at} {d = d} r k hp he =
     let g : WhileAt s at (stopOf s (at + 6)) d = while-at r k in
-    let b : WhileParts s at (stopOf s (at + 6)) (stopOf s at) d = record { deep = g .deep; inside = g .inside; cond = g .cond; low = omega (arith, g .low, g .stop); body = g .body; is = g .is } in
-    subst (λ (x : ℕ). WhileParts s at p x d) (sym he) (subst (λ (x : ℕ). WhileParts s at x (stopOf s at) d) (sym hp) b)
+    rw (hp, he) (record { deep = g .deep; inside = g .inside; cond = g .cond; low = omega (arith, g .low, g .stop); body = g .body; is = g .is })
 
 -- FOR: its end value at q, its block at p, its end at e
 pub record ForParts (s : List ℕ) (at q p e d : ℕ) : Type 0 where
@@ -49,12 +47,10 @@ pub record ForParts (s : List ℕ) (at q p e d : ℕ) : Type 0 where
   pub is : stmtAt s at ≡ Stmt.For at (le 2 s (at + 6)) (exprAt s (at + 8)) (exprAt s (stopOf s (at + 8))) p (stmtsFrom s (p + 6) e)
 
 pub for-parts : {s : List ℕ} {at q p e d : ℕ} → Ready Class.statement s at d → kindOf s at ≡ 17 → q ≡ stopOf s (at + 8) → p ≡ stopOf s q → e ≡ stopOf s at → ForParts s at q p e d
-for-parts {s} {at} {q} {p} {e} {d} r k hq hp he =
+for-parts {s} {at} {d = d} r k hq hp he =
     let q' : ℕ = stopOf s (at + 8) in
     let g : ForAt s at q' (stopOf s q') d = for-at r k in
-    let b : ForParts s at q (stopOf s q') (stopOf s at) d = record { deep = g .deep; fits = g .fits; inside = g .inside; name = g .name; start = g .start; end = g .end; low = omega (arith, g .low, g .stop); body = g .body; is = g .is } in
-    let z : p ≡ stopOf s q' = hp ∙ ap (λ (x : ℕ). stopOf s x) hq in
-    subst (λ (x : ℕ). ForParts s at q p x d) (sym he) (subst (λ (x : ℕ). ForParts s at q x (stopOf s at) d) (sym z) b)
+    rw (hp, hq, he) (record { deep = g .deep; fits = g .fits; inside = g .inside; name = g .name; start = g .start; end = g .end; low = omega (arith, g .low, g .stop); body = g .body; is = g .is })
 
 -- IF: its block at p, which stops at q, its end at e
 pub record ElsePart (s : List ℕ) (q e d : ℕ) (arms : OptStmts) : Type 0 where
@@ -75,10 +71,10 @@ pub record IfParts (s : List ℕ) (at p q e d : ℕ) : Type 0 where
   pub no-else : e ≤ q → arms ≡ noElse
 
 pub if-parts : {s : List ℕ} {at p q e d : ℕ} → Ready Class.statement s at d → kindOf s at ≡ 15 → p ≡ stopOf s (at + 6) → q ≡ stopOf s p → e ≡ stopOf s at → IfParts s at p q e d
-if-parts {s} {at} {p} {q} {e} {d} r k hp hq he =
+if-parts {s} {at} {d = d} r k hp hq he =
     let p' : ℕ = stopOf s (at + 6) in
     let g : IfAt s at p' (stopOf s p') d = if-at r k in
-    let b : IfParts s at p' (stopOf s p') (stopOf s at) d = record {
+    rw (hq, hp, he) (record {
       deep = g .deep;
       inside = g .inside;
       cond = g .cond;
@@ -89,43 +85,24 @@ if-parts {s} {at} {p} {q} {e} {d} r k hp hq he =
       is = g .is;
       some-else = λ h. let x : ElseAt s at (stopOf s p') d (g .arms) = g .some-else h in record { low = x .low; body = x .body; is = x .is };
       no-else = g .no-else;
-    } in
-    let a : IfParts s at p (stopOf s p) (stopOf s at) d = subst (λ (x : ℕ). IfParts s at x (stopOf s x) (stopOf s at) d) (sym hp) b in
-    subst (λ (x : ℕ). IfParts s at p q x d) (sym he) (subst (λ (x : ℕ). IfParts s at p x (stopOf s at) d) (sym hq) a)
+    })
 
 -- the second arm of an If, as the code takes it: the statements from `from` to e
 pub record Arm (s : List ℕ) (from e d : ℕ) (arms : OptStmts) : Type 0 where
   pub ready : ReadyAll Class.statement s from e (d - 2)
   pub is : (K : Contract) (es : Scope) (c : Ctx) → walkElse K es arms c ≡ walkStmts K es (stmtsFrom s from e) c
 
-nothing-at : {c : Class} {s : List ℕ} {at end d : ℕ} (e : ℕ) → e ≤ length s → ReadyAll c s at end d → ReadyAll c s e e d
-unfolding limitTrees mayEnd
-nothing-at {c} {s} e h r =
-    let z : readRecords s e e ≡ tnil = at-end s refl in
-    record {
-      fine = Fine.ends refl refl;
-      inside = h;
-      depth = r .depth;
-      sum = r .sum;
-      storage = 0;
-      structs = 0;
-      functions = 0;
-      limit = ap (λ (ts : Trees). limitTrees ts (r .depth) 0 0 0) z;
-    }
-
 pub arm-some : {s : List ℕ} {at p q e d from : ℕ} → (g : IfParts s at p q e d) → q < e → from ≡ q + 6 → Arm s from e d (g .arms)
 unfolding walkElse
 arm-some {s} {at} {p} {q} {e} {d} {from} g h z =
     let x : ElsePart s q e d (g .arms) = g .some-else h in
-    let b : Arm s (q + 6) e d (g .arms) = record { ready = x .body; is = λ K es c. ap (λ (a : OptStmts). walkElse K es a c) (x .is) } in
-    subst (λ (y : ℕ). Arm s y e d (g .arms)) (sym z) b
+    rw z (record { ready = x .body; is = λ K es c. ap (λ (a : OptStmts). walkElse K es a c) (x .is) })
 
 pub arm-none : {s : List ℕ} {at p q e d from : ℕ} → (g : IfParts s at p q e d) → e ≤ q → from ≡ e → Arm s from e d (g .arms)
 unfolding walkElse stmtOf
 arm-none {s} {at} {p} {q} {e} {d} {from} g h z =
     let n : readRecords s e e ≡ tnil = at-end s refl in
-    let b : Arm s e e d (g .arms) = record {
+    rw z (record {
       ready = nothing-at e (g .inside) (g .body);
       is = λ K es c. ap (λ (a : OptStmts). walkElse K es a c) (g .no-else h) ∙ ap (λ (ts : Trees). walkStmts K es (stmtsOf ts) c) (sym n);
-    } in
-    subst (λ (y : ℕ). Arm s y e d (g .arms)) (sym z) b
+    })

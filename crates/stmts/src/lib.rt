@@ -10,8 +10,6 @@ ghost use Rattle.nodes.specs.Ready.{Checked, Ready, ReadyAll, stmtAt, stmtsFrom
 ghost use Rattle.names.specs.Entries.{entriesOf};
 ghost use Rattle.walk.specs.Stmts.{walkStmt, walkStmts};
 ghost use Rattle.flow.specs.Flows.{ctxIn, stepIn, steppedIn, Sound, StepGrown, SteppedGrown};
-use fields::read;
-use fields::read_u16;
 use flow::Flow;
 use flow::Made;
 use flow::Step;
@@ -23,8 +21,12 @@ use ir::LocalId;
 use ir::Name;
 use names::LoweringError;
 use names::Scopes;
+use names::entries::copied;
 use names::entries::declare;
 use names::entries::entry;
+use names::entries::hold;
+use reader::read;
+use reader::read_u16;
 use steps::control;
 use steps::simple;
 
@@ -259,7 +261,8 @@ fn lower_stmt(
     at: usize,
     depth: usize,
     function: FunctionId,
-    scopes: Scopes,
+    entries: &[u64; 256],
+    count: usize,
     flow: Flow,
     log: &mut [u8; 32768],
     types: &mut [usize; 256],
@@ -267,34 +270,23 @@ fn lower_stmt(
     stops: &mut [usize; 256],
 ) -> Stepped
     requires { ⌜ Ready Class.statement (now s) at depth × Checked (now s) ⌝ }
-    requires { ⌜ Sound flow × (scopes .count ≤ flow .local) ⌝ }
-    ensures { λ r. ⌜ steppedIn (function .0) (now (log .exit)) (now (types .exit)) (now (starts .exit)) (now (stops .exit)) (entriesOf (scopes .entries) (scopes .count)) r ≡ walkStmt (readContract (now (s .entry))) (entriesOf (scopes .entries) (scopes .count)) (stmtAt (now (s .entry)) at) (ctxIn (function .0) (now (log .entry)) (now (types .entry)) (now (starts .entry)) (now (stops .entry)) flow) ⌝ }
+    requires { ⌜ Sound flow × (count ≤ flow .local) ⌝ }
+    ensures { λ r. ⌜ steppedIn (function .0) (now (log .exit)) (now (types .exit)) (now (starts .exit)) (now (stops .exit)) (entriesOf (now (entries .entry)) count) r ≡ walkStmt (readContract (now (s .entry))) (entriesOf (now (entries .entry)) count) (stmtAt (now (s .entry)) at) (ctxIn (function .0) (now (log .entry)) (now (types .entry)) (now (starts .entry)) (now (stops .entry)) flow) ⌝ }
     ensures { λ r. ⌜ SteppedGrown flow r ⌝ }
 {
-    let count = scopes.count;
     let kind = read(s, at + 4, 2);
     match kind {
-        10 => simple::lower_let(
-            s,
-            at,
-            depth,
-            function,
-            &scopes.entries,
-            count,
-            flow,
-            log,
-            types,
-        ),
-        11 => simple::lower_constrain(s, at, depth, &scopes.entries, count, flow, log),
-        12 => simple::lower_assign(s, at, depth, &scopes.entries, count, flow, log),
-        13 => simple::lower_storage_write(s, at, depth, &scopes.entries, count, flow, log),
+        10 => simple::lower_let(s, at, depth, function, entries, count, flow, log, types),
+        11 => simple::lower_constrain(s, at, depth, entries, count, flow, log),
+        12 => simple::lower_assign(s, at, depth, entries, count, flow, log),
+        13 => simple::lower_storage_write(s, at, depth, entries, count, flow, log),
         14 => Stepped::Refused(LoweringError::MappingWrite),
         15 => lower_if(
             s,
             at,
             depth,
             function,
-            scopes,
+            copied(entries, count),
             flow,
             log,
             types,
@@ -306,7 +298,7 @@ fn lower_stmt(
             at,
             depth,
             function,
-            scopes,
+            copied(entries, count),
             flow,
             log,
             types,
@@ -318,16 +310,16 @@ fn lower_stmt(
             at,
             depth,
             function,
-            scopes,
+            copied(entries, count),
             flow,
             log,
             types,
             starts,
             stops,
         ),
-        18 => simple::lower_return(s, at, depth, &scopes.entries, count, flow, log, stops),
-        19 => simple::lower_emit(s, at, depth, &scopes.entries, count, flow, log),
-        _ => simple::lower_expr_stmt(s, at, depth, &scopes.entries, count, flow, log),
+        18 => simple::lower_return(s, at, depth, entries, count, flow, log, stops),
+        19 => simple::lower_emit(s, at, depth, entries, count, flow, log),
+        _ => simple::lower_expr_stmt(s, at, depth, entries, count, flow, log),
     }
 }
 
@@ -357,12 +349,14 @@ pub fn lower_stmts(
         if flow.ended {
             return Step::Next(flow);
         }
+        let count = scopes.count;
         let stepped = lower_stmt(
             s,
             place,
             depth,
             function,
-            scopes,
+            &scopes.entries,
+            count,
             flow,
             log,
             types,
@@ -375,7 +369,8 @@ pub fn lower_stmts(
             }
             Stepped::Declared(next, e) => {
                 flow = next;
-                scopes = declare(scopes, e);
+                hold(&mut scopes.entries, count, e);
+                scopes.count = count + 1;
             }
             Stepped::Refused(e) => {
                 return Step::Refused(e);

@@ -16,7 +16,7 @@ use Rattle.definitions.specs.Records.{Value, item, rest, okType, okItem, optFro
 use Rattle.definitions.specs.ProgramSheet.{instrOf}
 use Rattle.definitions.proofs.Sheets.Passed.{Head}
 use Rattle.definitions.proofs.Sheets.Lines.{OfRows, Given, by-lines}
-use Rattle.definitions.proofs.Sheets.Singles.{itemsFrom, after, Valid, Singles, singles}
+use Rattle.definitions.proofs.Sheets.Singles.{itemsFrom, after, Valid, Starts, starts}
 use Rattle.verify.specs.Positions.{ruleTest, rawOpt, byRule, InstrPlace, hasType, typeOffset, typeHere, idsHere, instrHere, sizeHere}
 
 -- what is known of the instruction of kind k at q, whose values are vs
@@ -46,13 +46,12 @@ module _ (s : List ℕ) (q end b stop : ℕ) where
       → Head s q end Class.instruction (map single (optional ∷ es) ++ fs) done b stop → InstrAt s q stop k (readValues (map single (optional ∷ es) ++ fs) s stop (q + 6))
   unfolding itemsFrom readItem
   line k es fs lo hi ru size is kk gives ty hd =
-      let n : pastAll (map single (optional ∷ es) ++ fs) s stop (q + 6) ≡ 0 → ⊥ = (λ z. omega (arith, hd .body-is, hd .low, z)) in
-      let S : Singles (optional ∷ es) fs s stop q 6 = singles (optional ∷ es) fs s stop q 6 n in
+      let S : Starts (optional ∷ es) fs s q b stop = starts (optional ∷ es) fs hd in
       record {
         low = lo;
         high = hi;
         rules = ru;
-        fits = rw (← size) (S .fits (omega (arith, hd .low, hd .mid)));
+        fits = rw (← size) (S .fits);
         result = ap (optAt 0) (S .values);
         is = ap (instrOf k) (S .values) ∙ is;
         typed = ty (S .valid);

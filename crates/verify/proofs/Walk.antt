@@ -13,9 +13,10 @@ use Rattle.definitions.specs.Ir.{InstrNode, Terminator, BasicBlock, IrFunction}
 use Rattle.definitions.specs.Grammar.{Class, classNo, Entry, upTo, optional, irType, valueAndType, Field, single, counted, Pattern, done, one, perhaps, many, rows}
 use Rattle.definitions.specs.Records.{pick, Next, left, after, Value, group, readItems, okType, okItem, okItems, optFrom, readItem, readValue, sizeOf, pastAll, readValues, row, rowIn, optAt, Tree, node, Trees, tnil, tcons, readRecords, gather, Good, checkRecords}
 use Rattle.definitions.specs.ProgramSheet.{instrNodeOf, termOf, blockOf, functionOf, functionNameOf, programOf, readProgram, refusal40}
+use Rattle.definitions.proofs.Results.{by-test}
 use Rattle.definitions.proofs.Sheets.Passed.{Head, Fine, ends, goes, fine, read-end, read-step}
 use Rattle.definitions.proofs.Sheets.Lines.{OfRows, Given, by-lines, same-class, not-left}
-use Rattle.definitions.proofs.Sheets.Singles.{itemsFrom, after as afterAll, Valid, Singles, singles, Counted, counted-field}
+use Rattle.definitions.proofs.Sheets.Singles.{itemsFrom, after as afterAll, Valid, Starts, starts, Counted, counted-field}
 use Rattle.definitions.proofs.Sheets.Steps.{Step, here, past, many-step, perhaps-step, One, this, one-step, done-ends, low}
 use Rattle.verify.specs.Positions.{typeHere, instrHere, sizeHere, termHere, paramsHere, localsAt, firstBlock, typesHere, blocksHere, functionHere, functionsHere, FunctionAt, BlockFrom, BlocksFrom, BlockEnds, InstrPlace}
 use Rattle.verify.proofs.Records.{InstrAt, instr-at}
@@ -33,9 +34,8 @@ module _ (s : List ℕ) (q end b stop : ℕ) where
       → Head s q end Class.terminator (map single es ++ []) done b stop → TermAt s q stop k (readValues (map single es ++ []) s stop (q + 6))
   unfolding readValues
   term-line k es lo hi size is hd =
-      let n : pastAll (map single es ++ []) s stop (q + 6) ≡ 0 → ⊥ = (λ z. omega (arith, hd .body-is, hd .low, z)) in
-      let S : Singles es [] s stop q 6 = singles es [] s stop q 6 n in
-      record { low = lo; high = hi; fits = rw (← size) (S .fits (omega (arith, hd .low, hd .mid))); is = λ at ts. ap (λ (v : List Value). termOf (node at k v ts)) (S .values) ∙ is at ts }
+      let S : Starts es [] s q b stop = starts es [] hd in
+      record { low = lo; high = hi; fits = rw (← size) (S .fits); is = λ at ts. ap (λ (v : List Value). termOf (node at k v ts)) (S .values) ∙ is at ts }
 
   abbrev T : Class → ℕ → List Field → Pattern → Type 0
   T c k fs p = Head s q end c fs p b stop → (p ≡ done) × TermAt s q stop k (readValues fs s stop (q + 6))
@@ -118,28 +118,25 @@ at-record f = at-instruction (many-step Class.instruction (perhaps Class.termina
 
 -- a record that is there is long enough for its head, and its kind says which it is
 pub record-fits : {s : List ℕ} {q end : ℕ} → BlockFrom s q end → q < end → q + 6 ≤ end
-record-fits {s} {q} {end} f l = go (at-record f)
-  where
-    go : AtRecord s q end → q + 6 ≤ end
-    go (at-end e) = absurd (omega arith)
-    go (at-instr I) = omega (arith, I .low, I .high)
-    go (at-term T) = T .low
+record-fits f l = elim (at-record f) [
+  | at-end e ↦ absurd (omega arith)
+  | at-instr I ↦ omega (arith, I .low, I .high)
+  | at-term T ↦ T .low
+]
 
 pub instr-here : {s : List ℕ} {q end : ℕ} → BlockFrom s q end → q < end → le 2 s (q + 4) ≤ 81 → (stop : ℕ) × InstrStep s q end stop
-instr-here {s} {q} {end} f l k = go (at-record f)
-  where
-    go : AtRecord s q end → (stop : ℕ) × InstrStep s q end stop
-    go (at-end e) = absurd (omega arith)
-    go (at-instr {stop} I) = (stop, I)
-    go (at-term T) = absurd (omega (arith, T .at .low))
+instr-here f l k = elim (at-record f) [
+  | at-end e ↦ absurd (omega arith)
+  | at-instr {stop} I ↦ (stop, I)
+  | at-term T ↦ absurd (omega (arith, T .at .low))
+]
 
 pub term-here : {s : List ℕ} {q end : ℕ} → BlockFrom s q end → q < end → 81 < le 2 s (q + 4) → TermStep s q end
-term-here {s} {q} {end} f l k = go (at-record f)
-  where
-    go : AtRecord s q end → TermStep s q end
-    go (at-end e) = absurd (omega arith)
-    go (at-instr I) = absurd (omega (arith, I .at .high))
-    go (at-term T) = T
+term-here f l k = elim (at-record f) [
+  | at-end e ↦ absurd (omega arith)
+  | at-instr I ↦ absurd (omega (arith, I .at .high))
+  | at-term T ↦ T
+]
 
 -- BLOCKS
 pub record BlockStep (s : List ℕ) (b end stop : ℕ) : Type 0 where
@@ -166,9 +163,8 @@ module _ (s : List ℕ) (q end b stop : ℕ) where
   block-row =
       by-lines B Class.basicBlock rows
       (λ hd.
-      let n : pastAll (single (upTo 65534) ∷ []) s stop (q + 6) ≡ 0 → ⊥ = (λ z. omega (arith, hd .body-is, hd .low, z)) in
-      let S : Singles (upTo 65534 ∷ []) [] s stop q 6 = singles (upTo 65534 ∷ []) [] s stop q 6 n in
-      (refl, refl, hd .body-is ∙ S .past, λ x ts. ap (λ (v : List Value). blockOf (node x 53 v ts) .id) (S .values)))
+      let S : Starts (upTo 65534 ∷ []) [] s q b stop = starts (upTo 65534 ∷ []) [] hd in
+      (refl, refl, S .body, λ x ts. ap (λ (v : List Value). blockOf (node x 53 v ts) .id) (S .values)))
 
 block-step : {s : List ℕ} {b end : ℕ} → Step s b end Class.basicBlock (many Class.basicBlock done) done → AtBlock s b end
 block-step (past f) = no-block (done-ends f)
@@ -191,11 +187,7 @@ pub at-blocks : {s : List ℕ} {b end : ℕ} → Fine s b end (many Class.basicB
 at-blocks f = block-step (many-step Class.basicBlock done f)
 
 pub block-here : {s : List ℕ} {b end : ℕ} → Fine s b end (many Class.basicBlock done) → b < end → (stop : ℕ) × BlockStep s b end stop
-block-here {s} {b} {end} f l = go (at-blocks f)
-  where
-    go : AtBlock s b end → (stop : ℕ) × BlockStep s b end stop
-    go (no-block e) = absurd (omega arith)
-    go (at-block {stop} B) = (stop, B)
+block-here f l = elim (at-blocks f) [ no-block e ↦ absurd (omega arith) | at-block {stop} B ↦ (stop, B) ]
 
 pub block-to : {s : List ℕ} {b stop end : ℕ} → BlocksFrom s b stop → b < stop → BlockEnds s b stop end → BlockStep s b stop end
 block-to {s} {b} {stop} {end} f l e = let B = block-here f l in subst (BlockStep s b stop) (B .1 .stop-is ∙ sym (e .1 l)) (B .1)
@@ -238,15 +230,15 @@ module _ (s : List ℕ) (at end b stop : ℕ) where
       by-lines F Class.irFunction rows
       (λ hd.
       let fs : List Field = counted valueAndType ∷ counted irType ∷ [] in
-      let n : pastAll (map single (upTo 65534 ∷ upTo 65534 ∷ irType ∷ []) ++ fs) s stop (at + 6) ≡ 0 → ⊥ = (λ z. omega (arith, hd .body-is, hd .low, z)) in
-      let S : Singles (upTo 65534 ∷ upTo 65534 ∷ irType ∷ []) fs s stop at 6 = singles (upTo 65534 ∷ upTo 65534 ∷ irType ∷ []) fs s stop at 6 n in
+      let es : List Entry = upTo 65534 ∷ upTo 65534 ∷ irType ∷ [] in
+      let S : Starts es fs s at b stop = starts es fs hd in
       let C : Counted valueAndType (counted irType ∷ []) s stop (at + 14) = counted-field valueAndType (counted irType ∷ []) s stop (at + 14) (S .more) in
       let e : at + 14 + 2 ≡ at + 16 = omega arith in
       let f : at + 14 + 2 + 6 * le 2 s (at + 14) ≡ localsAt s at = omega arith in
       let D : Counted irType [] s stop (localsAt s at) = counted-field irType [] s stop (localsAt s at) (rw f at (C .more)) in
       let w : pastAll fs s stop (at + 14) ≡ firstBlock s at = C .past ∙ (ap (pastAll (counted irType ∷ []) s stop) f ∙ D .past) in
-      let v = S .values ∙ ap (λ (l : List Value). itemsFrom (upTo 65534 ∷ upTo 65534 ∷ irType ∷ []) s at 6 ++ l) (C .values ∙ ap (λ (l : List Value). group (readItems valueAndType (le 2 s (at + 14)) s (at + 14 + 2)) ∷ l) (ap (readValues (counted irType ∷ []) s stop) f ∙ D .values)) in
-      let body : b ≡ firstBlock s at = hd .body-is ∙ (S .past ∙ w) in (
+      let v = S .values ∙ ap (λ (l : List Value). itemsFrom es s at 6 ++ l) (C .values ∙ ap (λ (l : List Value). group (readItems valueAndType (le 2 s (at + 14)) s (at + 14 + 2)) ∷ l) (ap (readValues (counted irType ∷ []) s stop) f ∙ D .values)) in
+      let body : b ≡ firstBlock s at = S .body ∙ w in (
         refl,
         record {
           kind = refl;
@@ -276,11 +268,10 @@ name-kind {s} {at} hd = name-row (le 2 s (at + 4)) _ _ (hd .is)
 
 left-name : {c : Class} (r : Pattern) → after (many Class.functionName done) c ≡ left r → (c ≡ Class.functionName) × (r ≡ many Class.functionName done)
 unfolding after
-left-name {c} r e = go (eqb (classNo c) (classNo Class.functionName)) refl
-  where
-    go : (t : Bool) → eqb (classNo c) (classNo Class.functionName) ≡ t → (c ≡ Class.functionName) × (r ≡ many Class.functionName done)
-    go true z = let y : left (many Class.functionName done) ≡ left r = rw z at e in (same-class c Class.functionName z, cc)
-    go false z = absurd (not-left (rw z at e))
+left-name {c} r e =
+    by-test (eqb (classNo c) (classNo Class.functionName))
+    (λ z. let y : left (many Class.functionName done) ≡ left r = rw z at e in (same-class c Class.functionName z, cc))
+    (λ z. absurd (not-left (rw z at e)))
 
 names-only : {s : List ℕ} {at end : ℕ} {q : Pattern} → Fine s at end q → q ≡ many Class.functionName done → gather 51 51 functionOf (readRecords s at end) ≡ []
 names-only {s} {at} (ends z m) e = rw (← z) (ap (gather 51 51 functionOf) (read-end s at))
@@ -322,19 +313,11 @@ head-there (ends z m) l = absurd (omega arith)
 head-there (goes hd a kids rest) l = omega (arith, hd .low, hd .mid, hd .high)
 
 pub function-here : {s : List ℕ} {at end : ℕ} → Fine s at end (many Class.irFunction (many Class.functionName done)) → at < end → le 2 s (at + 4) ≡ 51 → (stop : ℕ) × FunctionStep s at end stop
-function-here {s} {at} {end} f l k = go (at-functions f)
-  where
-    go : AtFunction s at end → (stop : ℕ) × FunctionStep s at end stop
-    go (no-function e n h) = absurd (omega (arith, n l))
-    go (at-function {stop} F) = (stop, F)
+function-here f l k = elim (at-functions f) [ no-function e n h ↦ absurd (omega (arith, n l)) | at-function {stop} F ↦ (stop, F) ]
 
 pub no-functions : {s : List ℕ} {at end : ℕ} → Fine s at end (many Class.irFunction (many Class.functionName done)) → (at < end → le 2 s (at + 4) ≡ 51 → ⊥) → functionsHere s at end ≡ []
 unfolding functionsHere
-no-functions {s} {at} {end} f n = go (at-functions f)
-  where
-    go : AtFunction s at end → gather 51 51 functionOf (readRecords s at end) ≡ []
-    go (no-function e m h) = e
-    go (at-function F) = absurd (n (omega (arith, F .low, F .high)) (F .kind))
+no-functions f n = elim (at-functions f) [ no-function e m h ↦ e | at-function F ↦ absurd (n (omega (arith, F .low, F .high)) (F .kind)) ]
 
 -- THE PROGRAM: its records stand from 6 on, to the end
 abbrev G : Class → ℕ → List Field → Pattern → Type 0

@@ -71,13 +71,13 @@ fn result_type(s: &[u8], q: usize, kind: usize) -> usize
     match rule {
         1 => {
             if kind <= 73 {
-                fields::read(s, q + 8, 4)
+                reader::read(s, q + 8, 4)
             } else {
-                fields::read(s, q + 10, 4)
+                reader::read(s, q + 10, 4)
             }
         }
         2 => {
-            let t = fields::read(s, q + 10, 4);
+            let t = reader::read(s, q + 10, 4);
             if t == 4 {
                 return NO_TYPE;
             }
@@ -94,10 +94,10 @@ fn find_param(s: &[u8], at: usize, v: u16) -> usize
     requires { ⌜ localsAt (now s) at ≤ length (now s) ⌝ }
     ensures { λ r. ⌜ r ≡ firstPlace v (paramEntries (at + 16) (paramsHere (now (s .entry)) at)) ⌝ }
 {
-    let mut left = fields::read_u16(s, at + 14);
+    let mut left = reader::read_u16(s, at + 14);
     let mut p = at + 16;
     while 0 < left {
-        if fields::read_u16(s, p) == v {
+        if reader::read_u16(s, p) == v {
             return p;
         }
         p += 6;
@@ -113,14 +113,14 @@ fn find_in_block(s: &[u8], from: usize, end: usize, v: u16) -> usize
 {
     let mut q = from;
     while q < end {
-        let kind = fields::read_u16(s, q + 4);
+        let kind = reader::read_u16(s, q + 4);
         if 81 < kind {
             return 0;
         }
-        if fields::read_u16(s, q + 6) == v {
+        if reader::read_u16(s, q + 6) == v {
             return q;
         }
-        q += fields::read(s, q, 4);
+        q += reader::read(s, q, 4);
     }
     0
 }
@@ -140,7 +140,7 @@ fn find(s: &[u8], at: usize, first: usize, stop: usize, v: u16) -> usize
     }
     let mut b = first;
     while b < stop {
-        let end = b + fields::read(s, b, 4);
+        let end = b + reader::read(s, b, 4);
         let q = find_in_block(s, b + 8, end, v);
         if q != 0 {
             return q;
@@ -160,9 +160,9 @@ fn defined_type(s: &[u8], at: usize, first: usize, stop: usize, v: u16) -> usize
         return NO_TYPE;
     }
     if p < first {
-        return fields::read(s, p + 2, 4);
+        return reader::read(s, p + 2, 4);
     }
-    let kind = fields::read(s, p + 4, 2);
+    let kind = reader::read(s, p + 4, 2);
     result_type(s, p, kind)
 }
 
@@ -178,10 +178,10 @@ fn define_params(s: &[u8], at: usize, first: usize, stop: usize, name: u16) -> C
     requires { ⌜ FunctionAt (now s) at stop × (first ≡ firstBlock (now s) at) ⌝ }
     ensures { λ r. ⌜ checkedOf r ≡ named name (defineParams (paramsHere (now (s .entry)) at) []) ⌝ }
 {
-    let mut left = fields::read_u16(s, at + 14);
+    let mut left = reader::read_u16(s, at + 14);
     let mut p = at + 16;
     while 0 < left {
-        let v = fields::read_u16(s, p);
+        let v = reader::read_u16(s, p);
         if find(s, at, first, stop, v) != p {
             return Checked::Failed(VerifyError::DuplicateValueDef(Name(name), ValueId(v)));
         }
@@ -204,7 +204,7 @@ fn define_result(
     requires { ⌜ FunctionAt (now s) at stop × ((first ≡ firstBlock (now s) at) × InstrPlace (now s) q kind) ⌝ }
     ensures { λ r. ⌜ ((e : ℕ) (ds : Defined) (before after : List Entry) → Same ds before → entriesHere (now (s .entry)) at first stop ≡ before ++ (resultEntry q (optFrom (le 2 (now (s .entry)) (q + 6))) (instrHere kind (now (s .entry)) q e) ++ after) → checkedOf r ≡ named name (defineResult (instrHere kind (now (s .entry)) q e) (optFrom (le 2 (now (s .entry)) (q + 6))) ds)) ⌝ }
 {
-    let result = fields::read_u16(s, q + 6);
+    let result = reader::read_u16(s, q + 6);
     if result == 65535 {
         return Checked::Passed;
     }
@@ -234,7 +234,7 @@ fn define_block(
 {
     let mut q = from;
     while q < end {
-        let kind = fields::read_u16(s, q + 4);
+        let kind = reader::read_u16(s, q + 4);
         if 81 < kind {
             return Checked::Passed;
         }
@@ -244,7 +244,7 @@ fn define_block(
                 return Checked::Failed(e);
             }
         }
-        q += fields::read(s, q, 4);
+        q += reader::read(s, q, 4);
     }
     Checked::Passed
 }
@@ -256,7 +256,7 @@ fn define_blocks(s: &[u8], at: usize, first: usize, stop: usize, name: u16) -> C
 {
     let mut b = first;
     while b < stop {
-        let end = b + fields::read(s, b, 4);
+        let end = b + reader::read(s, b, 4);
         match define_block(s, at, first, stop, name, b + 8, end) {
             Checked::Passed => {}
             Checked::Failed(e) => {
@@ -295,12 +295,12 @@ fn verify_instr(
             Checked::Failed(e) => Checked::Failed(e),
         },
         74 => refs::check_values(s, at, first, stop, name, q + 12, 1),
-        75 => refs::check_local(s, at, name, fields::read_u16(s, q + 8)),
-        76 => match refs::check_local(s, at, name, fields::read_u16(s, q + 8)) {
+        75 => refs::check_local(s, at, name, reader::read_u16(s, q + 8)),
+        76 => match refs::check_local(s, at, name, reader::read_u16(s, q + 8)) {
             Checked::Passed => refs::check_values(s, at, first, stop, name, q + 10, 1),
             Checked::Failed(e) => Checked::Failed(e),
         },
-        77 => match refs::check_function(s, name, fields::read_u16(s, q + 8)) {
+        77 => match refs::check_function(s, name, reader::read_u16(s, q + 8)) {
             Checked::Passed => refs::check_values(
                 s,
                 at,
@@ -333,7 +333,7 @@ fn verify_terminator(
     ensures { λ r. ⌜ ((ds : Defined) → Same ds (entriesHere (now (s .entry)) at first stop) → checkedOf r ≡ named name (verifyTerminator (termHere kind (now (s .entry)) q) (typeHere (now (s .entry)) (at + 10)) ds (blockIds (blocksHere (now (s .entry)) first stop)))) ⌝ }
 {
     match kind {
-        90 => refs::check_block(s, first, stop, name, fields::read_u16(s, q + 6)),
+        90 => refs::check_block(s, first, stop, name, reader::read_u16(s, q + 6)),
         91 => refs::verify_branch(s, at, first, stop, name, q),
         92 => refs::verify_return(s, at, first, stop, name, q),
         _ => Checked::Passed,
@@ -353,14 +353,14 @@ fn verify_block(
     requires { ⌜ (FunctionAt (now s) at stop × ((first ≡ firstBlock (now s) at) × FunctionsFrom (now s) 6)) × (BlockFrom (now s) (b + 8) end × (end ≤ length (now s))) ⌝ }
     ensures { λ r. ⌜ ((ds : Defined) → Same ds (entriesHere (now (s .entry)) at first stop) → checkedOf r ≡ named name (verifyBlock (blockHere (now (s .entry)) b end) (functionHere (now (s .entry)) at stop) ds (idsOfAll (now (s .entry))))) ⌝ }
 {
-    let id = fields::read_u16(s, b + 6);
+    let id = reader::read_u16(s, b + 6);
     let mut q = b + 8;
     while q < end {
-        let kind = fields::read_u16(s, q + 4);
+        let kind = reader::read_u16(s, q + 4);
         if 81 < kind {
             return verify_terminator(s, at, first, stop, name, q, kind);
         }
-        let next = q + fields::read(s, q, 4);
+        let next = q + reader::read(s, q, 4);
         match verify_instr(s, at, first, stop, name, q, next, kind) {
             Checked::Passed => {}
             Checked::Failed(e) => {
@@ -378,7 +378,7 @@ fn block_end(s: &[u8], b: usize, stop: usize) -> usize
     ensures { λ r. ⌜ BlockEnds (now (s .entry)) b stop r ⌝ }
 {
     if b < stop {
-        b + fields::read(s, b, 4)
+        b + reader::read(s, b, 4)
     } else {
         stop
     }
@@ -409,8 +409,8 @@ fn verify_function(s: &[u8], at: usize, stop: usize, name: u16) -> Checked
     requires { ⌜ FunctionAt (now s) at stop × FunctionsFrom (now s) 6 ⌝ }
     ensures { λ r. ⌜ checkedOf r ≡ named name (verifyFunction (functionHere (now (s .entry)) at stop) (idsOfAll (now (s .entry)))) ⌝ }
 {
-    let locals = at + 16 + 6 * fields::read(s, at + 14, 2);
-    let first = locals + 2 + 4 * fields::read(s, locals, 2);
+    let locals = at + 16 + 6 * reader::read(s, at + 14, 2);
+    let first = locals + 2 + 4 * reader::read(s, locals, 2);
     match define_params(s, at, first, stop, name) {
         Checked::Passed => {}
         Checked::Failed(e) => {
@@ -433,11 +433,11 @@ fn verify_program(s: &[u8]) -> Checked
 {
     let mut at = 6;
     while at < s.len() {
-        if fields::read_u16(s, at + 4) != 51 {
+        if reader::read_u16(s, at + 4) != 51 {
             return Checked::Passed;
         }
-        let stop = at + fields::read(s, at, 4);
-        let name = fields::read_u16(s, at + 8);
+        let stop = at + reader::read(s, at, 4);
+        let name = reader::read_u16(s, at + 8);
         match verify_function(s, at, stop, name) {
             Checked::Passed => {}
             Checked::Failed(e) => {

@@ -45,7 +45,7 @@ pub fn check_values(
     let mut left = n;
     let mut p = from;
     while 0 < left {
-        let v = fields::read_u16(s, p);
+        let v = reader::read_u16(s, p);
         if defined_type(s, at, first, stop, v) == NO_TYPE {
             return Checked::Failed(VerifyError::UndefinedValue(Name(name), ValueId(v)));
         }
@@ -62,10 +62,10 @@ pub fn check_block(s: &[u8], first: usize, stop: usize, name: u16, b: u16) -> Ch
 {
     let mut p = first;
     while p < stop {
-        if fields::read_u16(s, p + 6) == b {
+        if reader::read_u16(s, p + 6) == b {
             return Checked::Passed;
         }
-        p += fields::read(s, p, 4);
+        p += reader::read(s, p, 4);
     }
     Checked::Failed(VerifyError::UndefinedBlock(Name(name), BlockId(b)))
 }
@@ -77,13 +77,13 @@ pub fn check_function(s: &[u8], name: u16, f: u16) -> Checked
 {
     let mut p = 6;
     while p < s.len() {
-        if fields::read_u16(s, p + 4) != 51 {
+        if reader::read_u16(s, p + 4) != 51 {
             return Checked::Failed(VerifyError::UndefinedFunction(Name(name), FunctionId(f)));
         }
-        if fields::read_u16(s, p + 6) == f {
+        if reader::read_u16(s, p + 6) == f {
             return Checked::Passed;
         }
-        p += fields::read(s, p, 4);
+        p += reader::read(s, p, 4);
     }
     Checked::Failed(VerifyError::UndefinedFunction(Name(name), FunctionId(f)))
 }
@@ -93,8 +93,8 @@ pub fn check_local(s: &[u8], at: usize, name: u16, l: u16) -> Checked
     requires { ⌜ localsAt (now s) at + 2 ≤ length (now s) ⌝ }
     ensures { λ r. ⌜ checkedOf r ≡ named name (checkLocalRef l (length (typesHere (le 2 (now (s .entry)) (localsAt (now (s .entry)) at)) (now (s .entry)) (localsAt (now (s .entry)) at + 2)))) ⌝ }
 {
-    let params = fields::read(s, at + 14, 2);
-    let count = fields::read_u16(s, at + 16 + 6 * params);
+    let params = reader::read(s, at + 14, 2);
+    let count = reader::read_u16(s, at + 16 + 6 * params);
     if l < count {
         return Checked::Passed;
     }
@@ -115,17 +115,17 @@ pub fn verify_binary(s: &[u8], at: usize, first: usize, stop: usize, name: u16, 
     requires { ⌜ FunctionAt (now s) at stop × ((first ≡ firstBlock (now s) at) × ((q + 16 ≤ length (now s)) × (okType (le 2 (now s) (q + 8)) (le 2 (now s) (q + 10)) ≡ true))) ⌝ }
     ensures { λ r. ⌜ ((ds : Defined) (op : BinOp) (fids : List ℕ) (lc : ℕ) → Same ds (entriesHere (now (s .entry)) at first stop) → checkedOf r ≡ named name (verifyInstr (Instruction.Binary op (typeHere (now (s .entry)) (q + 8)) (le 2 (now (s .entry)) (q + 12)) (le 2 (now (s .entry)) (q + 14))) ds fids lc)) ⌝ }
 {
-    let l = fields::read_u16(s, q + 12);
+    let l = reader::read_u16(s, q + 12);
     let lhs = defined_type(s, at, first, stop, l);
     if lhs == NO_TYPE {
         return Checked::Failed(VerifyError::UndefinedValue(Name(name), ValueId(l)));
     }
-    let r = fields::read_u16(s, q + 14);
+    let r = reader::read_u16(s, q + 14);
     let rhs = defined_type(s, at, first, stop, r);
     if rhs == NO_TYPE {
         return Checked::Failed(VerifyError::UndefinedValue(Name(name), ValueId(r)));
     }
-    let t = fields::read(s, q + 8, 4);
+    let t = reader::read(s, q + 8, 4);
     if lhs != t {
         return operand_mismatch(name, lhs, rhs);
     }
@@ -149,8 +149,8 @@ pub fn verify_return(s: &[u8], at: usize, first: usize, stop: usize, name: u16, 
     requires { ⌜ FunctionAt (now s) at stop × ((first ≡ firstBlock (now s) at) × (q + 8 ≤ length (now s))) ⌝ }
     ensures { λ r. ⌜ ((ds : Defined) (blocks : List ℕ) → Same ds (entriesHere (now (s .entry)) at first stop) → checkedOf r ≡ named name (verifyTerminator (Terminator.Return (optFrom (le 2 (now (s .entry)) (q + 6)))) (typeHere (now (s .entry)) (at + 10)) ds blocks)) ⌝ }
 {
-    let expected = fields::read(s, at + 10, 4);
-    let v = fields::read_u16(s, q + 6);
+    let expected = reader::read(s, at + 10, 4);
+    let v = reader::read_u16(s, q + 6);
     if v == 65535 {
         if expected == 4 {
             return Checked::Passed;
@@ -176,7 +176,7 @@ fn check_condition(s: &[u8], at: usize, first: usize, stop: usize, name: u16, q:
     requires { ⌜ FunctionAt (now s) at stop × ((first ≡ firstBlock (now s) at) × (q + 8 ≤ length (now s))) ⌝ }
     ensures { λ r. ⌜ ((ds : Defined) → Same ds (entriesHere (now (s .entry)) at first stop) → checkedOf r ≡ named name (checkCondition (le 2 (now (s .entry)) (q + 6)) ds)) ⌝ }
 {
-    let v = fields::read_u16(s, q + 6);
+    let v = reader::read_u16(s, q + 6);
     let t = defined_type(s, at, first, stop, v);
     if t == NO_TYPE {
         return Checked::Failed(VerifyError::UndefinedValue(Name(name), ValueId(v)));
@@ -193,8 +193,8 @@ pub fn verify_branch(s: &[u8], at: usize, first: usize, stop: usize, name: u16, 
     requires { ⌜ FunctionAt (now s) at stop × ((first ≡ firstBlock (now s) at) × (q + 12 ≤ length (now s))) ⌝ }
     ensures { λ r. ⌜ ((ds : Defined) → Same ds (entriesHere (now (s .entry)) at first stop) → checkedOf r ≡ named name (verifyTerminator (Terminator.Branch (le 2 (now (s .entry)) (q + 6)) (le 2 (now (s .entry)) (q + 8)) (le 2 (now (s .entry)) (q + 10))) (typeHere (now (s .entry)) (at + 10)) ds (blockIds (blocksHere (now (s .entry)) first stop)))) ⌝ }
 {
-    let b = fields::read_u16(s, q + 8);
-    let e = fields::read_u16(s, q + 10);
+    let b = reader::read_u16(s, q + 8);
+    let e = reader::read_u16(s, q + 10);
     let condition = check_condition(s, at, first, stop, name, q);
     let then_target = check_block(s, first, stop, name, b);
     let else_target = check_block(s, first, stop, name, e);

@@ -3,12 +3,14 @@
 // No contract can say which bytes are read or written, so `main` is proved only safe and ending. `lines::verify_line` has the
 // contract on the bytes: from the sheet in the buffer to the line in `text`.
 use libc::STDIN_FILENO;
-use libc::STDOUT_FILENO;
 
 fn main() {
+    if !console::is_readable() {
+        return;
+    }
     let mut sheet = io::large_buffer();
     let n = io::read_full(STDIN_FILENO, &mut sheet);
     let mut text = [0u8; 128];
     let k = lines::verify_line(&sheet[..n], &mut text);
-    io::write_all(STDOUT_FILENO, &text[..k]);
+    console::print(&text[..k]);
 }

@@ -14,7 +14,7 @@ use Rattle.definitions.specs.Verify.{blockIds}
 use Rattle.definitions.specs.Records.{Tree, Trees, tnil, tcons, writeTree, writeTrees, treesOf}
 use Rattle.definitions.specs.ProgramSheet.{instrTree, termTree, optTermTree}
 use Rattle.definitions.proofs.Runs.Safe.{In, find-hit, find-miss}
-use Rattle.definitions.proofs.Runs.Invariant.{update-hit, update-miss, Distinct}
+use Rattle.definitions.proofs.Runs.Blocks.{update-hit, update-miss, Distinct}
 
 -- where blocks start and stop in the log
 pub record Marks : Type 0 where

@@ -16,7 +16,7 @@ use Rattle.definitions.specs.Verify.{blockIds}
 use Rattle.definitions.specs.Records.{writeTree, writeTrees}
 use Rattle.definitions.specs.ProgramSheet.{instrTree, termTree}
 use Rattle.definitions.proofs.Runs.Safe.{In, here, there}
-use Rattle.definitions.proofs.Runs.Invariant.{find-other, find-mine, find-append-old, ids-update, Distinct}
+use Rattle.definitions.proofs.Runs.Blocks.{find-other, find-mine, find-append-old, ids-update, Distinct}
 use Rattle.walk.proofs.Parts.{Marks, written, weight, Closed, Here, opened, closed, Parts, closed-more, added, ended, weight-update, weight-snoc, ids-none, ids-snoc, find-new, find-old}
 
 abbrev pub stopped : (cur a : ℕ) → Marks → Marks

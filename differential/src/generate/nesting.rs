@@ -13,7 +13,7 @@ pub fn sheets() -> Vec<Vec<u8>> {
     for levels in 0..42 {
         sheets.extend(expressions(levels).map(|value| in_function(Stmt::Expr(value))));
         if levels < 22 {
-            sheets.extend(statements(levels).map(in_function));
+            sheets.extend(statements(levels, leaf()).map(in_function));
         }
     }
     for inner in [kind::IDENT, kind::STORAGE_READ, kind::BINARY, 0] {
@@ -41,9 +41,31 @@ fn expressions(levels: u32) -> [Expr; 8] {
     ]
 }
 
-/// Statements that nest this many times, each time in a block.
-fn statements(levels: u32) -> [Stmt; 6] {
-    let leaf = Stmt::Expr(call(7, vec![]));
+/// Contracts of depth 40 whose statements nest and whose innermost statement
+/// has an expression that nests as deep as is left; and such with an empty
+/// block there.
+pub fn of_depth_40() -> Vec<Vec<u8>> {
+    // A contract is at 1, its function at 2; a statement in the block of a
+    // statement is two deeper.
+    let mut bodies = Vec::new();
+    for levels in 0..=18 {
+        for value in expressions(36 - 2 * levels) {
+            bodies.extend(statements(levels, Stmt::Expr(value.clone())));
+            bodies.extend(statements(levels, let_(X, value)));
+        }
+    }
+    bodies.extend(statements(18, Stmt::If(int(1), vec![], Some(vec![]))));
+    bodies.extend(statements(18, Stmt::While(int(1), vec![])));
+    bodies.extend(statements(18, for_(X, int(0), int(1), vec![])));
+    bodies.into_iter().map(in_function).collect()
+}
+
+fn leaf() -> Stmt {
+    Stmt::Expr(call(7, vec![]))
+}
+
+/// Statements that nest this many times around another, each time in a block.
+fn statements(levels: u32, leaf: Stmt) -> [Stmt; 6] {
     let nest = |step: fn(Stmt) -> Stmt| (0..levels).fold(leaf.clone(), |inner, _| step(inner));
     [
         nest(|inner| Stmt::If(int(1), vec![inner], None)),

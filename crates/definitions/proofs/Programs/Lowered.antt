@@ -1,25 +1,24 @@
 -- A lowered program whose sheet is short enough fits; demand 3 on its sheet. Assumes nothing.
-use Prim.Native.Nat.{ℕ, zero, suc, _+_, _*_, _≤_, _<_, _^_}
+use Prim.Native.Nat.{ℕ, zero, suc, _+_, _≤_, _<_}
 use mathlib.Core.Path.{_≡_, refl, sym, _∙_, ap, subst}
 use mathlib.Core.List.{List, [], _∷_, _++_, map}
 use mathlib.Core.Option.{Option, none, some}
-use mathlib.Core.Bool.{Bool, true, false}
-use lib.Dec.{eqb, lit<}
+use lib.Dec.{eqb}
 use lib.ListN.{length, length-append}
 use native.Mathlib.Omega.{arith}
-use borrow.Author.Tests.{eqb-true, eq-eqb, ne-eqb}
+use borrow.Author.Tests.{eq-eqb, ne-eqb}
 use Rattle.definitions.specs.Ast.{Contract, Function}
 use Rattle.definitions.specs.Fields.{bytes}
 use Rattle.definitions.specs.Ir.{BasicBlock, InstrNode, Instruction, IrFunction, IrProgram, IrType, Terminator, find, localRead, localWritten, operands}
 use Rattle.definitions.specs.Lower.{functionNames, lowerContract, lowerFunction, lowerFunctions, setName}
-use Rattle.definitions.specs.ProgramSheet.{blockTree, functionNameTree, functionTree, instrTree, optTermTree, paramItem, programTree, readProgram, refusal40, writeProgram}
-use Rattle.definitions.specs.Records.{Form, Good, Item, Tree, Trees, Value, group, node, tcons, tnil, treesOf, ty, writeItem, writeItems, writeRecord, writeTree, writeTrees, writeType, writeValue, writeValues}
+use Rattle.definitions.specs.ProgramSheet.{blockTree, functionNameTree, functionTree, instrTree, optTermTree, paramItem, writeProgram}
+use Rattle.definitions.specs.Records.{Item, Tree, Trees, Value, group, node, tnil, treesOf, writeItem, writeItems, writeTree, writeTrees, writeValue, writeValues}
 use Rattle.definitions.specs.Result.{ok}
 use Rattle.definitions.specs.Run.{termReads}
 use Rattle.definitions.specs.Verify.{blockIds}
-use Rattle.definitions.proofs.Results.{some-none, ok-inj, taking}
-use Rattle.definitions.proofs.Runs.Safe.{callees, In, here, there, Sub, in-nil, in-left, in-right, withResult, NodeOk, Ok, heldAfter, targets, TermOk, entryHeld, BlockOk, ids, GoodFn, find-hit, find-miss, find-id}
-use Rattle.definitions.proofs.Runs.Invariant.{results, defs, Distinct}
+use Rattle.definitions.proofs.Results.{by-test, ok-inj, taking}
+use Rattle.definitions.proofs.Runs.Safe.{callees, In, here, there, in-nil, in-left, in-right, withResult, Ok, heldAfter, targets, entryHeld, BlockOk, ids, GoodFn, find-hit, find-miss}
+use Rattle.definitions.proofs.Runs.Blocks.{results, defs, Distinct, found-in}
 use Rattle.definitions.proofs.Runs.Expressions.{fns}
 use Rattle.definitions.proofs.Runs.Functions.{FnOk, function-ok}
 use Rattle.definitions.specs.All.{All, anil, acons}
@@ -27,7 +26,6 @@ use Rattle.definitions.proofs.Programs.Fits.{Id, FitsType, FitsOpt, Fit
 use Rattle.definitions.proofs.Contracts.Bounds.{SmallFunction, Small}
 use Rattle.definitions.proofs.Sheets.Trees.{wrap-long, tree-long}
 use Rattle.definitions.proofs.Programs.Contents.{Content, NodeFits, CodeFits, FnFits, function-fit}
-use Rattle.definitions.proofs.Programs.RoundTrip.{form, round-trip}
 
 -- HOW LONG A SHEET IS, AT LEAST
 abbrev sum : {A : Type 0} → (A → ℕ) → List A → ℕ
@@ -148,14 +146,6 @@ term-fits (Terminator.Return (some v)) r g = r v (here refl)
 term-fits Terminator.Unreachable r g = tt
 
 -- blocks by their ids
-found-in : (k : ℕ) (bs : List BasicBlock) (b : BasicBlock) → find k bs ≡ some b → In k (blockIds bs)
-found-in k [] b e = absurd (some-none b (sym e))
-found-in k (x ∷ bs) b e = go (eqb (x .id) k) refl (found-in k bs b)
-  where
-    go : (t : Bool) → eqb (x .id) k ≡ t → (find k bs ≡ some b → In k (blockIds bs)) → In k (x .id ∷ blockIds bs)
-    go true q below = here (eqb-true (x .id) k q)
-    go false q below = there (below (sym (find-miss k x bs q) ∙ e))
-
 id-low : (k : ℕ) (bs : List BasicBlock) → All CodeFits bs → In k (blockIds bs) → k < 65535
 id-low k (b ∷ bs) (acons p c) (here e) = omega (arith, p .0, e)
 id-low k (b ∷ bs) (acons p c) (there i) = id-low k bs c i
@@ -231,11 +221,7 @@ NameFits n = Id (n .0) × Id (n .1)
 
 set-name : (n i : ℕ) → Id n → Id i → (rs : List (ℕ × ℕ)) → All NameFits rs → All NameFits (setName n i rs)
 set-name n i hn hi [] h = acons (hn, hi) anil
-set-name n i hn hi (r ∷ rs) (acons p h) = go (eqb (r .0) n) refl (set-name n i hn hi rs h)
-  where
-    go : (t : Bool) → eqb (r .0) n ≡ t → All NameFits (setName n i rs) → All NameFits (setName n i (r ∷ rs))
-    go true q below = rw (q, setName) (acons (hn, hi) h)
-    go false q below = rw (q, setName) (acons p below)
+set-name n i hn hi (r ∷ rs) (acons p h) = by-test (eqb (r .0) n) (λ q. rw (q, setName) (acons (hn, hi) h)) (λ q. rw (q, setName) (acons p (set-name n i hn hi rs h)))
 
 names-fit : (i : ℕ) (fs : List Function) (rs : List (ℕ × ℕ)) → All SmallFunction fs → i + length fs ≤ 64 → All NameFits rs → All NameFits (functionNames i fs rs)
 names-fit i [] rs s h r = r

@@ -1,52 +1,42 @@
 -- Demand 3, its run half: no list of picks brings a lack. Assumes nothing.
-use Prim.Native.Nat.{ℕ, zero, suc, _<_, _≤_, _+_}
-use mathlib.Core.Path.{_≡_, refl, sym, _∙_, ap, subst}
-use mathlib.Core.Logic.{_⊎_, inl, inr}
-use mathlib.Core.List.{List, List·Memᴰ, List·Memᴰ·head, List·Memᴰ·tail, [], _∷_, _++_}
-use mathlib.Core.Option.{Option, none, some}
-use mathlib.Core.Bool.{Bool, true, false}
-use lib.Dec.{eqb}
+use Prim.Native.Nat.{ℕ, suc, _<_, _≤_, _+_}
+use mathlib.Core.Path.{_≡_, refl, sym, _∙_, subst}
+use mathlib.Core.List.{List, List·Memᴰ, List·Memᴰ·head, List·Memᴰ·tail, [], _∷_}
+use mathlib.Core.Option.{none}
 use lib.ListN.{length}
 use native.Mathlib.Omega.{arith}
-use borrow.Author.Tests.{eqb-true, eq-eqb, ne-eqb}
+use borrow.Author.Tests.{eq-eqb, ne-eqb}
 use Rattle.definitions.specs.Ast.{Param, Contract, Function}
-use Rattle.definitions.specs.Ir.{BasicBlock, Instruction, IrFunction, IrProgram, IrType, Terminator, find}
-use Rattle.definitions.specs.Lower.{FnCtx, Value, currentBlockTerminated, defined, emptyBlock, freshLocal, freshValue, functionNames, initLocal, irFunction, lowerContract, lowerFunction, lowerFunctions, lowerParams, lowerStmts, newCtx, ownReturnType, parseIrType, pushInstr, setScopes, setTerminator, terminateIfOpen, withLocal}
-use Rattle.definitions.specs.Result.{_>>=_, err, ok}
+use Rattle.definitions.specs.Ir.{IrFunction, IrProgram, IrType, Terminator}
+use Rattle.definitions.specs.Lower.{FnCtx, Value, defined, emptyBlock, freshValue, initLocal, irFunction, lowerContract, lowerFunction, lowerFunctions, lowerParams, lowerStmts, newCtx, parseIrType, setScopes, terminateIfOpen}
+use Rattle.definitions.specs.Result.{ok}
 use Rattle.definitions.specs.Run.{Pick, lacks, run}
 use Rattle.definitions.specs.Verify.{blockIds}
-use Rattle.definitions.proofs.Results.{ok-inj, err-ok, taking, some-none}
-use Rattle.definitions.proofs.Runs.Safe.{In, here, there, Sub, sub-refl, sub-trans, sub-there, sub-cons, sub-nil, in-nil, sub-pair, TermOk, BlockOk, ids, GoodFn, find-hit, find-miss, never-lacks}
-use Rattle.definitions.proofs.Runs.Invariant.{Inv, Values, defs, defs-none, Distinct, weaken, opening, scopes-keep}
-use Rattle.definitions.proofs.Runs.Expressions.{localsOf, fns, Same}
-use Rattle.definitions.proofs.Runs.Statements.{Hold, hold-keeps, Moved, Closed, close-keeps, stmts-keep, defined-in}
+use Rattle.definitions.proofs.Results.{ok-inj, taking, some-none}
+use Rattle.definitions.proofs.Runs.Safe.{In, here, there, Sub, sub-refl, sub-trans, sub-cons, sub-nil, in-nil, sub-pair, ids, GoodFn, find-hit, find-miss, never-lacks}
+use Rattle.definitions.proofs.Runs.Blocks.{defs, Distinct, only}
+use Rattle.definitions.proofs.Runs.Invariant.{Inv, weaken, opening, scopes-keep}
+use Rattle.definitions.proofs.Runs.Expressions.{localsOf, fns}
+use Rattle.definitions.proofs.Runs.Statements.{hold-keeps, Moved, return-ok, close-keeps, stmts-keep, defined-in}
 
 -- ---- the start
-only : (k : ℕ) (b : BasicBlock) → find k (emptyBlock 0 ∷ []) ≡ some b → (b ≡ emptyBlock 0) × (0 ≡ k)
-only k b e = go (eqb 0 k) refl
-  where
-    go : (t : Bool) → eqb 0 k ≡ t → (b ≡ emptyBlock 0) × (0 ≡ k)
-    go true q = (cc (find-hit k (emptyBlock 0) [] q), eqb-true 0 k q)
-    go false q = absurd (some-none b (sym e ∙ find-miss k (emptyBlock 0) [] q))
-
 start-inv : (F : ℕ) (ps : List ℕ) (i : ℕ) → Inv F 0 ps (λ k. []) (0 ∷ []) ps [] (newCtx i)
 start-inv F ps i = record {
-  each = λ k b e. rw (only k b e .0) (record { code = tt; end = λ t q. absurd (some-none t (sym q)) });
-  found = λ k h. (emptyBlock 0, find-hit k (emptyBlock 0) [] (eq-eqb 0 k (omega arith)));
-  absent = λ k h. find-miss k (emptyBlock 0) [] (ne-eqb 0 k (λ e. omega arith));
-  opens = λ k b e z. here (only k b e .1);
-  inside = omega arith;
-  held = λ b e. rw (only 0 b e .0) sub-refl;
-  written = λ b e. sub-nil;
-  bounded = λ l h. absurd (in-nil h);
-  certs = λ k h l j. absurd (in-nil j);
-  first = (emptyBlock 0, ([], refl, refl));
+  built = record {
+    each = λ k b e. rw (only 0 k b e .0) (record { code = tt; end = λ t q. absurd (some-none t (sym q)) });
+    found = λ k h. (emptyBlock 0, find-hit k (emptyBlock 0) [] (eq-eqb 0 k (omega arith)));
+    absent = λ k h. find-miss k (emptyBlock 0) [] (ne-eqb 0 k (λ e. omega arith));
+    certs = λ k h l j. absurd (in-nil j);
+    first = (emptyBlock 0, ([], refl, refl));
+  };
+  opens = λ k b e z. here (only 0 k b e .1);
+  spot = record { inside = omega arith; held = λ b e. rw (only 0 0 b e .0) sub-refl; written = λ b e. sub-nil; bounded = λ l h. absurd (in-nil h) };
   values = record { distinct = tt; range = λ v h. absurd (in-nil h); after = omega arith; few = omega arith; blocks = (in-nil, tt) };
 }
 
 take-keeps : {F : ℕ} {ps : List ℕ} {cert : ℕ → List ℕ} {Q H W : List ℕ} {c : FnCtx} → defs (c .blocks) ≡ [] → Inv F (c .nextValue) ps cert Q H W c → Inv F (suc (c .nextValue)) ps cert Q H W (freshValue c)
 unfolding freshValue
-take-keeps plain I = record { each = I .each; found = I .found; absent = I .absent; opens = I .opens; inside = I .inside; held = I .held; written = I .written; bounded = I .bounded; certs = I .certs; first = I .first; values = record { distinct = I .values .distinct; range = λ v h. absurd (in-nil (rw plain at h)); after = omega arith; few = omega arith; blocks = I .values .blocks } }
+take-keeps plain I = record { built = I .built; opens = I .opens; spot = I .spot; values = record { distinct = I .values .distinct; range = λ v h. absurd (in-nil (rw plain at h)); after = omega arith; few = omega arith; blocks = I .values .blocks } }
 
 -- ---- the parameters: no value is defined by a block yet
 pub record Begun (F : ℕ) (ps : List ℕ) (H : List ℕ) (c : FnCtx) (q : FnCtx × List Value) : Type 0 where
@@ -105,7 +95,7 @@ pub record FnOk (F : ℕ) (i : ℕ) (g : IrFunction) : Type 0 where
   pub blocks-distinct : Distinct (blockIds (g .blocks))
 
 good-of : {F m i : ℕ} (f : Function) {ps : List Value} {cert : ℕ → List ℕ} {c : FnCtx} → cert 0 ≡ [] → Inv F m (ids ps) cert [] [] [] c → GoodFn F (irFunction i f ps c)
-good-of f {cert = cert} {c = c} z I = record { cert = cert; count = c .nextBlock; each = I .each; found = I .found; closed = λ k b q z. in-nil (I .opens k b q z); first = I .first; some-block = omega (arith, I .inside); entry = z }
+good-of f {cert = cert} {c = c} z I = record { cert = cert; count = c .nextBlock; each = I .built .each; found = I .built .found; closed = λ k b q z. in-nil (I .opens k b q z); first = I .built .first; some-block = omega (arith, I .spot .inside); entry = z }
 
 pub function-ok : (K : Contract) (i : ℕ) (f : Function) (g : IrFunction) → lowerFunction K i f ≡ ok g → FnOk (fns K) i g
 unfolding lowerFunction
@@ -119,10 +109,10 @@ function-ok K i f g e =
       where
         ends : Moved (fns K) (p .0 .nextValue) (ids (p .1)) (λ k. []) [] (B .W′) (p .0) c → FnOk (fns K) i (irFunction i f (p .1) (terminateIfOpen (Terminator.Return none) c))
         ends M =
-            let Z = close-keeps (Terminator.Return none) (record { reads = sub-nil; goes = λ k h. absurd (in-nil h) }) (M .inv) in
+            let Z = close-keeps (Terminator.Return none) (return-ok none sub-nil) (M .inv) in
             record {
               id = refl;
-              good = good-of f (M .agree 0 (omega (arith, B .inv .inside))) (Z .inv);
+              good = good-of f (M .agree 0 (omega (arith, B .inv .spot .inside))) (Z .inv);
               last = p .0 .nextValue;
               params-low = λ v h. B .range v h .1;
               few-params = omega (arith, B .counted);

@@ -1,16 +1,17 @@
 -- A certificate for a function: which locals are written on entry to each block. A function with one never lacks. Assumes nothing.
 use Prim.Native.Nat.{ℕ, zero, suc, _<_, _≤_}
-use mathlib.Core.Path.{_≡_, refl, sym, _∙_, ap, subst}
+use mathlib.Core.Path.{_≡_, refl, subst}
 use mathlib.Core.Logic.{_⊎_, inl, inr}
-use mathlib.Core.List.{List, [], _∷_, _++_, map}
+use mathlib.Core.List.{List, [], _∷_, _++_}
 use mathlib.Core.Option.{Option, none, some}
-use mathlib.Core.Bool.{Bool, true, false, _&&_}
+use mathlib.Core.Bool.{true, false}
 use lib.Dec.{eqb}
 use lib.ListN.{length}
 use native.Mathlib.Omega.{arith}
-use borrow.Author.Tests.{eqb-true, eqb-false, eq-eqb, ne-eqb}
+use borrow.Author.Tests.{eqb-true, eq-eqb}
 use Rattle.definitions.specs.Ir.{BasicBlock, InstrNode, Instruction, IrFunction, IrType, Terminator, contains, find, localRead, localWritten, operands, resultType}
-use Rattle.definitions.specs.Run.{Pick, Place, State, Way, allHeld, allWritten, at, elseWay, ended, enter, enterAt, follow, heldAtEntry, holdResult, holds, isFirst, lacks, paramsHeld, run, start, step, stepEntry, steps, target, termReads, thenWay}
+use Rattle.definitions.specs.Run.{Pick, Place, State, Way, allHeld, allWritten, at, elseWay, ended, enter, enterAt, follow, heldAtEntry, holdResult, holds, lacks, paramsHeld, run, start, step, stepEntry, steps, termReads, thenWay}
+use Rattle.definitions.proofs.Results.{by-test}
 
 -- the functions that an instruction calls
 abbrev pub callees : Instruction → List ℕ
@@ -58,6 +59,13 @@ in-nil h = elim h [ ]
 pub sub-pair : {a b : List ℕ} {x : ℕ} → In x b → Sub a b → Sub (x ∷ a) b
 sub-pair {b = b} h f v (here e) = subst (λ (y : ℕ). In y b) e h
 sub-pair h f v (there i) = f v i
+
+pub sub-one : {b : List ℕ} {x : ℕ} → In x b → Sub (x ∷ []) b
+sub-one h = sub-pair h sub-nil
+
+pub in-one : (P : ℕ → Type 0) {x v : ℕ} → P x → In v (x ∷ []) → P v
+in-one P p (here e) = subst P e p
+in-one P p (there h) = absurd (in-nil h)
 
 pub in-left : (a b : List ℕ) (v : ℕ) → In v a → In v (a ++ b)
 in-left (x ∷ a) b v (here e) = here e
@@ -143,13 +151,17 @@ abbrev pub ids : List (ℕ × IrType) → List ℕ
 ids [] = []
 ids (p ∷ ps) = p .0 ∷ ids ps
 
+-- there is a first block, and its id is 0
+abbrev pub First : List BasicBlock → Type 0
+First bs = (b : BasicBlock) × ((rest : List BasicBlock) × (bs ≡ b ∷ rest) × (b .id ≡ 0))
+
 pub record GoodFn (F : ℕ) (f : IrFunction) : Type 0 where
   pub cert : ℕ → List ℕ
   pub count : ℕ
   pub each : (k : ℕ) (b : BasicBlock) → find k (f .blocks) ≡ some b → BlockOk F (length (f .locals)) cert count (ids (f .params)) b
   pub found : (k : ℕ) → k < count → (b : BasicBlock) × (find k (f .blocks) ≡ some b)
   pub closed : (k : ℕ) (b : BasicBlock) → find k (f .blocks) ≡ some b → b .terminator ≡ none → ⊥
-  pub first : (b : BasicBlock) × ((bs : List BasicBlock) × (f .blocks ≡ b ∷ bs) × (b .id ≡ 0))
+  pub first : First (f .blocks)
   pub some-block : 0 < count
   pub entry : cert 0 ≡ []
 
@@ -162,11 +174,10 @@ find-miss k x bs q = rw (q, find)
 
 pub find-id : (k : ℕ) (bs : List BasicBlock) (b : BasicBlock) → find k bs ≡ some b → b .id ≡ k
 find-id k [] b e = cc
-find-id k (x ∷ bs) b e = go (eqb (x .id) k) refl (find-id k bs b)
-  where
-    go : (t : Bool) → eqb (x .id) k ≡ t → (find k bs ≡ some b → b .id ≡ k) → b .id ≡ k
-    go true q below = let h : x .id ≡ k = eqb-true (x .id) k q in cc (find-hit k x bs q)
-    go false q below = below (cc (find-miss k x bs q))
+find-id k (x ∷ bs) b e =
+    by-test (eqb (x .id) k)
+    (λ q. let h : x .id ≡ k = eqb-true (x .id) k q in cc (find-hit k x bs q))
+    (λ q. find-id k bs b (cc (find-miss k x bs q)))
 
 -- ---- a run stays at a good place
 pub record PlaceOk (F L : ℕ) (cert : ℕ → List ℕ) (n : ℕ) (s : Place) : Type 0 where
@@ -191,11 +202,7 @@ all-in [] hs h = refl
 all-in (v ∷ vs) hs h = rw (h v (here refl), all-in vs hs (λ w i. h w (there i)))
 
 has-cons : (x v : ℕ) (xs : List ℕ) → contains v xs ≡ true → contains v (x ∷ xs) ≡ true
-has-cons x v xs h = go (eqb x v) refl
-  where
-    go : (t : Bool) → eqb x v ≡ t → contains v (x ∷ xs) ≡ true
-    go true q = rw (q, contains)
-    go false q = rw (q, contains) h
+has-cons x v xs h = by-test (eqb x v) (λ q. rw (q, contains)) (λ q. rw (q, contains) h)
 
 has-here : (x v : ℕ) (xs : List ℕ) → x ≡ v → contains v (x ∷ xs) ≡ true
 has-here x v xs e = rw (eq-eqb x v e, contains)
@@ -204,11 +211,7 @@ holds-here : (x w v : ℕ) (xs : List (ℕ × ℕ)) → x ≡ v → holds v ((x,
 holds-here x w v xs e = rw (eq-eqb x v e, holds)
 
 holds-cons : (x w v : ℕ) (xs : List (ℕ × ℕ)) → holds v xs ≡ true → holds v ((x, w) ∷ xs) ≡ true
-holds-cons x w v xs h = go (eqb x v) refl
-  where
-    go : (t : Bool) → eqb x v ≡ t → holds v ((x, w) ∷ xs) ≡ true
-    go true q = rw (q, holds)
-    go false q = rw (q, holds) h
+holds-cons x w v xs h = by-test (eqb x v) (λ q. rw (q, holds)) (λ q. rw (q, holds) h)
 
 has-append : (a : List ℕ) (W xs : List ℕ) → ((l : ℕ) → In l W → contains l xs ≡ true) → (l : ℕ) → In l (a ++ W) → contains l (a ++ xs) ≡ true
 has-append [] W xs h l i = h l i

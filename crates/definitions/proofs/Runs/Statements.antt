@@ -1,45 +1,35 @@
 -- Lowering a statement keeps the invariant, over a certificate that grows. Assumes nothing.
-use Prim.Native.Nat.{ℕ, zero, suc, _<_, _≤_, _+_, _*_}
+use Prim.Native.Nat.{ℕ, suc, _<_, _≤_}
 use mathlib.Core.Path.{_≡_, refl, sym, _∙_, ap, subst}
-use mathlib.Core.Logic.{_⊎_, inl, inr}
 use mathlib.Core.List.{List, [], _∷_, _++_}
 use mathlib.Core.Option.{Option, none, some}
-use mathlib.Core.Bool.{Bool, true, false}
-use lib.Dec.{eqb, ltb}
+use mathlib.Core.Bool.{true, false}
+use lib.Dec.{ltb}
 use lib.ListN.{length, length-append}
 use native.Mathlib.Omega.{arith}
-use Rattle.definitions.specs.Ast.{BinOp, Contract, Expr, Exprs, OptExpr, OptStmts, Stmt, Stmts, absent, elseDo, noElse, present, scons, snil}
-use Rattle.definitions.specs.Ir.{BasicBlock, Instruction, IrType, Terminator, find, localRead, localWritten, operands}
-use Rattle.definitions.specs.Lower.{Lowering, storageNamed, FnCtx, Lowered, LoweringError, Scope, Value, currentBlockTerminated, defined, forHeader, forStep, freshBlock, freshLocal, initLocal, isTerminated, lookupLocal, lowerArgs, lowerBody, lowerElse, lowerExpr, lowerExprValue, lowerReturn, lowerStmt, lowerStmts, needValue, popped, pushInstr, setScopes, setTerminator, switchTo, terminateIfOpen, threeBlocks, unlessTerminated, withBlock, withLocal}
-use Rattle.definitions.specs.Result.{_>>=_, err, ok, okOrElse}
-use Rattle.definitions.proofs.Results.{ok-inj, err-ok, taking, taking-some, some-none}
-use Rattle.definitions.proofs.Runs.Safe.{callees, In, here, there, Sub, sub-refl, sub-trans, sub-there, sub-cons, sub-nil, in-nil, sub-pair, in-left, in-right, in-either, sub-append, withResult, TermOk}
-use Rattle.definitions.proofs.Runs.Invariant.{defs, defs-none, Inv, MayPush, push-keeps, term-keeps, weaken, opening, scopes-keep, switch-keeps, local-keeps, grown-keeps, upd, upd-new, upd-old, Agree}
-use Rattle.definitions.proofs.Runs.Expressions.{taking-value, scopeLocals, localsOf, lookup-in, Same, same-refl, same-trans, push-same, valueIds, Kept, fns, quiet, read-may, expr-keeps, args-keep}
+use borrow.Author.Tests.{ltb-true}
+use Rattle.definitions.specs.Ast.{BinOp, Contract, Expr, OptExpr, OptStmts, Stmt, Stmts, absent, elseDo, noElse, present, scons, snil}
+use Rattle.definitions.specs.Ir.{BasicBlock, Instruction, IrType, Terminator, find, localWritten}
+use Rattle.definitions.specs.Lower.{Lowering, storageNamed, FnCtx, LoweringError, Scope, Value, currentBlockTerminated, defined, forHeader, forStep, freshBlock, freshLocal, initLocal, isTerminated, lookupLocal, lowerArgs, lowerBody, lowerElse, lowerExpr, lowerExprValue, lowerReturn, lowerStmt, lowerStmts, popped, pushInstr, setScopes, setTerminator, switchTo, terminateIfOpen, threeBlocks, unlessTerminated, withBlock, withLocal}
+use Rattle.definitions.specs.Run.{termReads}
+use Rattle.definitions.specs.Result.{_>>=_, ok}
+use Rattle.definitions.proofs.Results.{by-test, ok-inj, err-ok, taking, taking-some}
+use Rattle.definitions.proofs.Runs.Safe.{In, here, there, Sub, sub-refl, sub-trans, sub-there, sub-cons, sub-nil, in-nil, sub-pair, sub-one, in-one, in-left, in-right, TermOk}
+use Rattle.definitions.proofs.Runs.Blocks.{defs, defs-none}
+use Rattle.definitions.proofs.Runs.Invariant.{Inv, MayPush, push-keeps, term-keeps, weaken, opening, scopes-keep, switch-keeps, local-keeps, grown-keeps, upd, upd-new, upd-old, Agree}
+use Rattle.definitions.proofs.Runs.Expressions.{taking-value, scopeLocals, localsOf, lookup-in, Same, same-refl, same-trans, push-same, Kept, fns, quiet, read-may, expr-keeps, args-keep}
 
 -- ---- what was fresh
-pub fresh-block-is : (c : FnCtx) (r : FnCtx × ℕ) → freshBlock c ≡ ok r → (withBlock c, c .nextBlock) ≡ r
+pub fresh-block-is : (c : FnCtx) (r : FnCtx × ℕ) → freshBlock c ≡ ok r → (c .nextBlock < 256) × ((withBlock c, c .nextBlock) ≡ r)
 unfolding freshBlock
-fresh-block-is c r e = go (ltb (c .nextBlock) 256) refl
-  where
-    go : (t : Bool) → ltb (c .nextBlock) 256 ≡ t → (withBlock c, c .nextBlock) ≡ r
-    go false q = absurd (err-ok (rw (q, freshBlock) at e))
-    go true q = ok-inj (rw (q, freshBlock) at e)
+fresh-block-is c r e = by-test (ltb (c .nextBlock) 256) (λ q. (ltb-true (c .nextBlock) 256 q, ok-inj (rw (q, freshBlock) at e))) (λ q. absurd (err-ok (rw (q, freshBlock) at e)))
 
-pub fresh-local-is : (t : IrType) (c : FnCtx) (r : FnCtx × ℕ) → freshLocal t c ≡ ok r → (withLocal t c, length (c .locals)) ≡ r
+pub fresh-local-is : (t : IrType) (c : FnCtx) (r : FnCtx × ℕ) → freshLocal t c ≡ ok r → (length (c .locals) < 256) × ((withLocal t c, length (c .locals)) ≡ r)
 unfolding freshLocal
-fresh-local-is t c r e = go (ltb (length (c .locals)) 256) refl
-  where
-    go : (b : Bool) → ltb (length (c .locals)) 256 ≡ b → (withLocal t c, length (c .locals)) ≡ r
-    go false q = absurd (err-ok (rw (q, freshLocal) at e))
-    go true q = ok-inj (rw (q, freshLocal) at e)
+fresh-local-is t c r e = by-test (ltb (length (c .locals)) 256) (λ q. (ltb-true (length (c .locals)) 256 q, ok-inj (rw (q, freshLocal) at e))) (λ q. absurd (err-ok (rw (q, freshLocal) at e)))
 
 pub write-may : {F L : ℕ} {H W : List ℕ} (l v : ℕ) → In v H → l < L → MayPush F L H W (Instruction.WriteLocal l v)
-write-may {L = L} l v i h = record { reads = sub-pair i sub-nil; written = sub-nil; bound = one; calls = λ f g. absurd (in-nil g) }
-  where
-    one : (k : ℕ) → In k (l ∷ []) → k < L
-    one k (here e) = rw (← e) h
-    one k (there g) = absurd (in-nil g)
+write-may {L = L} l v i h = record { reads = sub-one i; written = sub-nil; bound = λ k g. in-one (λ (x : ℕ). x < L) h g; calls = λ f g. absurd (in-nil g) }
 
 -- a local written at once
 pub record Hold (F m : ℕ) (ps : List ℕ) (cert : ℕ → List ℕ) (Q H W : List ℕ) (c : FnCtx) (q : FnCtx × ℕ) : Type 0 where
@@ -52,7 +42,7 @@ pub hold-keeps : {F m : ℕ} {ps : List ℕ} {cert : ℕ → List ℕ} {Q H W : 
 unfolding initLocal withLocal pushInstr
 hold-keeps {F} {m} {ps} {cert} {Q} {H} {W} {c} t v q e i I =
     taking (freshLocal t c) _ e λ l el e₁.
-    subst (Hold F m ps cert Q H W c) (ok-inj e₁) (subst (λ (r : FnCtx × ℕ). Hold F m ps cert Q H W c (pushInstr (Instruction.WriteLocal (r .1) v) (r .0), r .1)) (fresh-local-is t c l el) made)
+    subst (Hold F m ps cert Q H W c) (ok-inj e₁) (subst (λ (r : FnCtx × ℕ). Hold F m ps cert Q H W c (pushInstr (Instruction.WriteLocal (r .1) v) (r .0), r .1)) (fresh-local-is t c l el .1) made)
   where
     made : Hold F m ps cert Q H W c (pushInstr (Instruction.WriteLocal (length (c .locals)) v) (withLocal t c), length (c .locals))
     made = record { inv = push-keeps (Instruction.WriteLocal (length (c .locals)) v) (write-may (length (c .locals)) v i (simp length-append (omega arith))) (local-keeps t I); same = same-trans (record { scopes = refl; currentBlock = refl; nextBlock = refl }) (push-same (Instruction.WriteLocal (length (c .locals)) v) (withLocal t c)); values = defs-none (c .currentBlock) (Instruction.WriteLocal (length (c .locals)) v) (c .blocks); nextValue = refl }
@@ -81,9 +71,9 @@ three-keeps {F} {m} {ps} {cert} {P} {H} {W} {c} b e I =
     taking (freshBlock c) _ e λ x ex e₁.
     taking (freshBlock (x .0)) _ e₁ λ y ey e₂.
     taking (freshBlock (y .0)) _ e₂ λ z ez e₃.
-    let px : (withBlock c, c .nextBlock) ≡ x = fresh-block-is c x ex in
-    let py : (withBlock (x .0), x .0 .nextBlock) ≡ y = fresh-block-is (x .0) y ey in
-    let pz : (withBlock (y .0), y .0 .nextBlock) ≡ z = fresh-block-is (y .0) z ez in
+    let px : (withBlock c, c .nextBlock) ≡ x = fresh-block-is c x ex .1 in
+    let py : (withBlock (x .0), x .0 .nextBlock) ≡ y = fresh-block-is (x .0) y ey .1 in
+    let pz : (withBlock (y .0), y .0 .nextBlock) ≡ z = fresh-block-is (y .0) z ez .1 in
     let pb : (z .0, x .1, y .1, z .1) ≡ b = ok-inj e₃ in
     subst (Three F m ps cert P H W c) (all-is x y z px py pz pb) made
   where
@@ -131,7 +121,7 @@ true-false e = let z : _≡_ {A = ℕ} 0 1 = cc in omega arith
 -- where the currentBlock block has ended it is not open
 pub ended : {F m : ℕ} {ps : List ℕ} {cert : ℕ → List ℕ} {P H W : List ℕ} {c : FnCtx} → currentBlockTerminated c ≡ true → Inv F m ps cert (c .currentBlock ∷ P) H W c → Inv F m ps cert P H W c
 unfolding currentBlockTerminated
-ended {P = P} {c = c} t I = record { each = I .each; found = I .found; absent = I .absent; opens = λ k b e z. out k b e z (I .opens k b e z); inside = I .inside; held = I .held; written = I .written; bounded = I .bounded; certs = I .certs; first = I .first; values = I .values }
+ended {P = P} {c = c} t I = record { built = I .built; opens = λ k b e z. out k b e z (I .opens k b e z); spot = I .spot; values = I .values }
   where
     out : (k : ℕ) (b : BasicBlock) → find k (c .blocks) ≡ some b → b .terminator ≡ none → In k (c .currentBlock ∷ P) → In k P
     out k b e z (here q) = absurd (true-false (sym t ∙ ((rw (q, e)) ∙ is-terminated b z)))
@@ -142,32 +132,30 @@ pub record Closed (F m : ℕ) (ps : List ℕ) (cert : ℕ → List ℕ) (P : Lis
   pub scopes : d .scopes ≡ c .scopes
   pub nextBlock : d .nextBlock ≡ c .nextBlock
 
+-- a block that has ended is left as it is
+closed-already : {F m : ℕ} {ps : List ℕ} {cert : ℕ → List ℕ} {P H W : List ℕ} {c : FnCtx} → currentBlockTerminated c ≡ true → Inv F m ps cert (c .currentBlock ∷ P) H W c → Closed F m ps cert P c c
+closed-already q I = record { inv = weaken sub-nil sub-nil (ended q I); scopes = refl; nextBlock = refl }
+
 closed-term : {F m : ℕ} {ps : List ℕ} {cert : ℕ → List ℕ} {P H W : List ℕ} {c : FnCtx} (t : Terminator) → TermOk cert (c .nextBlock) H W t → Inv F m ps cert (c .currentBlock ∷ P) H W c → Closed F m ps cert P c (setTerminator t c)
 unfolding setTerminator
 closed-term t o I = record { inv = weaken sub-nil sub-nil (term-keeps t o I); scopes = refl; nextBlock = refl }
 
 pub close-keeps : {F m : ℕ} {ps : List ℕ} {cert : ℕ → List ℕ} {P H W : List ℕ} {c : FnCtx} (t : Terminator) → TermOk cert (c .nextBlock) H W t → Inv F m ps cert (c .currentBlock ∷ P) H W c → Closed F m ps cert P c (terminateIfOpen t c)
 unfolding terminateIfOpen
-close-keeps {F} {m} {ps} {cert} {P} {H} {W} {c} t o I = go (currentBlockTerminated c) refl
-  where
-    go : (b : Bool) → currentBlockTerminated c ≡ b → Closed F m ps cert P c (terminateIfOpen t c)
-    go true q = rw (q, terminateIfOpen) (record { inv = weaken sub-nil sub-nil (ended q I); scopes = refl; nextBlock = refl })
-    go false q = rw (q, terminateIfOpen) (closed-term t o I)
+close-keeps {c = c} t o I = by-test (currentBlockTerminated c) (λ q. rw (q, terminateIfOpen) (closed-already q I)) (λ q. rw (q, terminateIfOpen) (closed-term t o I))
 
 jump-ok : {cert : ℕ → List ℕ} {n : ℕ} {H W : List ℕ} (k : ℕ) → k < n → Sub (cert k) W → TermOk cert n H W (Terminator.Jump k)
-jump-ok {cert} {n} {H} {W} k h s = record { reads = sub-nil; goes = go }
-  where
-    go : (j : ℕ) → In j (k ∷ []) → (j < n) × Sub (cert j) W
-    go j (here e) = rw (← e) (h, s)
-    go j (there i) = absurd (in-nil i)
+jump-ok {cert} {n} {H} {W} k h s = record { reads = sub-nil; goes = λ j i. in-one (λ (x : ℕ). (x < n) × Sub (cert x) W) (h, s) i }
 
 branch-ok : {cert : ℕ → List ℕ} {n : ℕ} {H W : List ℕ} (v k l : ℕ) → In v H → k < n → Sub (cert k) W → l < n → Sub (cert l) W → TermOk cert n H W (Terminator.Branch v k l)
-branch-ok {cert} {n} {H} {W} v k l i h s g u = record { reads = sub-pair i sub-nil; goes = go }
+branch-ok {cert} {n} {H} {W} v k l i h s g u = record { reads = sub-one i; goes = go }
   where
     go : (j : ℕ) → In j (k ∷ l ∷ []) → (j < n) × Sub (cert j) W
     go j (here e) = rw (← e) (h, s)
-    go j (there (here e)) = rw (← e) (g, u)
-    go j (there (there x)) = absurd (in-nil x)
+    go j (there i) = in-one (λ (x : ℕ). (x < n) × Sub (cert x) W) (g, u) i
+
+pub return-ok : {cert : ℕ → List ℕ} {n : ℕ} {H W : List ℕ} (o : Option ℕ) → Sub (termReads (Terminator.Return o)) H → TermOk cert n H W (Terminator.Return o)
+return-ok o s = record { reads = s; goes = λ k h. absurd (in-nil h) }
 
 -- ---- what a statement leaves
 pub record Moved (F m : ℕ) (ps : List ℕ) (cert : ℕ → List ℕ) (P W : List ℕ) (c d : FnCtx) : Type 0 where
@@ -211,29 +199,28 @@ pub test-keeps : {F m : ℕ} {ps : List ℕ} {cert : ℕ → List ℕ} {P W : Li
 unfolding forHeader pushInstr
 test-keeps {F} {m} {ps} {cert} {P} {W} {c} i e body exit hi he hb hx sb sx I =
     let c₁ = pushInstr (Instruction.ReadLocal i IrType.U64) c in
-    let I₁ = push-keeps (Instruction.ReadLocal i IrType.U64) (read-may i IrType.U64 hi (I .bounded i hi)) I in
+    let I₁ = push-keeps (Instruction.ReadLocal i IrType.U64) (read-may i IrType.U64 hi (I .spot .bounded i hi)) I in
     let c₂ = pushInstr (Instruction.ReadLocal e IrType.U64) c₁ in
-    let I₂ = push-keeps (Instruction.ReadLocal e IrType.U64) (read-may e IrType.U64 he (I .bounded e he)) I₁ in
-    let I₃ = push-keeps (Instruction.Binary BinOp.Lt IrType.U64 (c .nextValue) (c₁ .nextValue)) (quiet (Instruction.Binary BinOp.Lt IrType.U64 (c .nextValue) (c₁ .nextValue)) refl refl refl (sub-pair (there (here refl)) (sub-pair (here refl) sub-nil))) I₂ in
+    let I₂ = push-keeps (Instruction.ReadLocal e IrType.U64) (read-may e IrType.U64 he (I .spot .bounded e he)) I₁ in
+    let I₃ = push-keeps (Instruction.Binary BinOp.Lt IrType.U64 (c .nextValue) (c₁ .nextValue)) (quiet (Instruction.Binary BinOp.Lt IrType.U64 (c .nextValue) (c₁ .nextValue)) refl refl refl (sub-pair (there (here refl)) (sub-one (here refl)))) I₂ in
     let Z = closed-term (Terminator.Branch (c₂ .nextValue) body exit) (branch-ok (c₂ .nextValue) body exit (here refl) hb sb hx sx) I₃ in
     record { inv = Z .inv; scopes = Z .scopes; nextBlock = Z .nextBlock }
 
 -- `i += 1` and the Terminator.Jump back
 pub loop-keeps : {F m : ℕ} {ps : List ℕ} {cert : ℕ → List ℕ} {P W : List ℕ} {c : FnCtx} (i header : ℕ) → In i W → header < c .nextBlock → Sub (cert header) W → Inv F m ps cert (c .currentBlock ∷ P) [] W c → Closed F m ps cert P c (forStep i header c)
 unfolding forStep pushInstr
-loop-keeps {F} {m} {ps} {cert} {P} {W} {c} i header hi hh sh I = go (currentBlockTerminated c) refl
-  where
-    go : (b : Bool) → currentBlockTerminated c ≡ b → Closed F m ps cert P c (forStep i header c)
-    go true q = rw (q, forStep) (record { inv = weaken sub-nil sub-nil (ended q I); scopes = refl; nextBlock = refl })
-    go false q =
-        let c₁ = pushInstr (Instruction.ReadLocal i IrType.U64) c in
-        let I₁ = push-keeps (Instruction.ReadLocal i IrType.U64) (read-may i IrType.U64 hi (I .bounded i hi)) I in
-        let c₂ = pushInstr (Instruction.Const IrType.U64 1) c₁ in
-        let I₂ = push-keeps (Instruction.Const IrType.U64 1) (quiet (Instruction.Const IrType.U64 1) refl refl refl sub-nil) I₁ in
-        let I₃ = push-keeps (Instruction.Binary BinOp.Add IrType.U64 (c .nextValue) (c₁ .nextValue)) (quiet (Instruction.Binary BinOp.Add IrType.U64 (c .nextValue) (c₁ .nextValue)) refl refl refl (sub-pair (there (here refl)) (sub-pair (here refl) sub-nil))) I₂ in
-        let I₄ = push-keeps (Instruction.WriteLocal i (c₂ .nextValue)) (write-may i (c₂ .nextValue) (here refl) (I .bounded i hi)) I₃ in
-        let Z = closed-term (Terminator.Jump header) (jump-ok header hh (sub-there sh)) I₄ in
-        rw (q, forStep) (record { inv = Z .inv; scopes = Z .scopes; nextBlock = Z .nextBlock })
+loop-keeps {c = c} i header hi hh sh I =
+    by-test (currentBlockTerminated c)
+    (λ q. rw (q, forStep) (closed-already q I))
+    (λ q.
+    let c₁ = pushInstr (Instruction.ReadLocal i IrType.U64) c in
+    let I₁ = push-keeps (Instruction.ReadLocal i IrType.U64) (read-may i IrType.U64 hi (I .spot .bounded i hi)) I in
+    let c₂ = pushInstr (Instruction.Const IrType.U64 1) c₁ in
+    let I₂ = push-keeps (Instruction.Const IrType.U64 1) (quiet (Instruction.Const IrType.U64 1) refl refl refl sub-nil) I₁ in
+    let I₃ = push-keeps (Instruction.Binary BinOp.Add IrType.U64 (c .nextValue) (c₁ .nextValue)) (quiet (Instruction.Binary BinOp.Add IrType.U64 (c .nextValue) (c₁ .nextValue)) refl refl refl (sub-pair (there (here refl)) (sub-one (here refl)))) I₂ in
+    let I₄ = push-keeps (Instruction.WriteLocal i (c₂ .nextValue)) (write-may i (c₂ .nextValue) (here refl) (I .spot .bounded i hi)) I₃ in
+    let Z = closed-term (Terminator.Jump header) (jump-ok header hh (sub-there sh)) I₄ in
+    rw (q, forStep) (record { inv = Z .inv; scopes = Z .scopes; nextBlock = Z .nextBlock }))
 
 -- ---- a statement in the block where it starts
 at-current : {F m : ℕ} {ps : List ℕ} {cert : ℕ → List ℕ} {P H W : List ℕ} {d : FnCtx} (k : ℕ) → d .currentBlock ≡ k → Inv F m ps cert (k ∷ P) H W d → Inv F m ps cert (d .currentBlock ∷ P) H W d
@@ -242,11 +229,18 @@ at-current {d = d} k e I = opening (sub-pair (here e) (sub-there sub-refl)) I
 stays : {F m : ℕ} {ps : List ℕ} {cert : ℕ → List ℕ} {P H W : List ℕ} {c d : FnCtx} → Same c d → Sub (localsOf (c .scopes)) W → Inv F m ps cert (c .currentBlock ∷ P) H W d → Moved F m ps cert P W c d
 stays {cert = cert} {W = W} {c = c} s sc I = record { cert′ = cert; W′ = W; inv = weaken sub-nil sub-refl (at-current (c .currentBlock) (s .currentBlock) I); agree = λ k h. refl; grows = rw (s .nextBlock) (omega arith); keeps = sub-refl; scoped = rw (s .scopes) sc; tails = ap popped (s .scopes) }
 
-then : {F m : ℕ} {ps : List ℕ} {cert : ℕ → List ℕ} {P W : List ℕ} {c d e : FnCtx} (M : Moved F m ps cert P W c d) → Moved F m ps (M .cert′) P (M .W′) d e → Moved F m ps cert P W c e
-then M N = record { cert′ = N .cert′; W′ = N .W′; inv = N .inv; agree = λ k h. N .agree k (omega (arith, h, M .grows)) ∙ M .agree k h; grows = omega (arith, M .grows, N .grows); keeps = sub-trans (M .keeps) (N .keeps); scoped = N .scoped; tails = N .tails ∙ M .tails }
+-- a result that is known
+gives : {F m : ℕ} {ps : List ℕ} {cert : ℕ → List ℕ} {P W : List ℕ} {c d e : FnCtx} → _≡_ {A = Lowering FnCtx} (ok d) (ok e) → Moved F m ps cert P W c d → Moved F m ps cert P W c e
+gives {F} {m} {ps} {cert} {P} {W} {c} e M = subst (Moved F m ps cert P W c) (ok-inj e) M
 
-then′ : {F m : ℕ} {ps : List ℕ} {cert : ℕ → List ℕ} {P W : List ℕ} {c d e : FnCtx} (M : Moved F m ps cert P W c d) → ((N : Moved F m ps cert P W c d) → Moved F m ps (N .cert′) P (N .W′) d e) → Moved F m ps cert P W c e
-then′ M k = then M (k M)
+then : {F m : ℕ} {ps : List ℕ} {cert : ℕ → List ℕ} {P W : List ℕ} {c d e : FnCtx} (M : Moved F m ps cert P W c d) → ((N : Moved F m ps cert P W c d) → Moved F m ps (N .cert′) P (N .W′) d e) → Moved F m ps cert P W c e
+then M go =
+    let N = go M in
+    record { cert′ = N .cert′; W′ = N .W′; inv = N .inv; agree = λ k h. N .agree k (omega (arith, h, M .grows)) ∙ M .agree k h; grows = omega (arith, M .grows, N .grows); keeps = sub-trans (M .keeps) (N .keeps); scoped = N .scoped; tails = N .tails ∙ M .tails }
+
+-- one more instruction
+pushes : {F m : ℕ} {ps : List ℕ} {cert : ℕ → List ℕ} {P H W vs : List ℕ} {c d : FnCtx} (i : Instruction) → MayPush F (length (d .locals)) (vs ++ H) W i → Sub (localsOf (c .scopes)) W → Kept F m ps cert (c .currentBlock ∷ P) H W c vs d → Moved F m ps cert P W c (pushInstr i d)
+pushes {W = W} {d = d} i may sc k = stays (same-trans (k .same) (push-same i d)) sc (weaken sub-refl (in-right (localWritten i) W) (push-keeps i may (k .inv)))
 
 pub defined-in : (n l : ℕ) (t : IrType) (ss : List Scope) → Sub (localsOf (defined n l t ss)) (l ∷ localsOf ss)
 defined-in n l t [] = sub-nil
@@ -264,9 +258,6 @@ term-stays : {F m : ℕ} {ps : List ℕ} {cert : ℕ → List ℕ} {P H W : List
 unfolding setTerminator
 term-stays {c = c} t s sc o I = stays (record { scopes = s .scopes; currentBlock = s .currentBlock; nextBlock = s .nextBlock }) sc (opening (sub-there sub-refl) (term-keeps t o (at-current (c .currentBlock) (s .currentBlock) I)))
 
-ret-ok : {cert : ℕ → List ℕ} {n : ℕ} {H W : List ℕ} (v : ℕ) → In v H → TermOk cert n H W (Terminator.Return (some v))
-ret-ok v i = record { reads = sub-pair i sub-nil; goes = λ k h. absurd (in-nil h) }
-
 -- the last of an `if`, a `while` or a `for`: the third block, entered with `W` written
 leaves : {F m : ℕ} {ps : List ℕ} {cert cert″ : ℕ → List ℕ} {P H W X Y : List ℕ} {c : FnCtx} {b : FnCtx × ℕ × ℕ × ℕ} {d : FnCtx} (T : Three F m ps cert P Y X c b) → Agree (b .0 .nextBlock) (T .cert′) cert″ → b .0 .nextBlock ≤ d .nextBlock → d .scopes ≡ c .scopes → Sub W X → Sub (localsOf (c .scopes)) W → Inv F m ps cert″ (b .3 ∷ P) H [] d → Moved F m ps cert P W c (switchTo (b .3) d)
 unfolding switchTo
@@ -283,11 +274,10 @@ Lowers F m ps body = (cert : ℕ → List ℕ) (P W : List ℕ) (c d : FnCtx) �
 module _ (F m : ℕ) (ps : List ℕ) where
   live-keeps : (body : FnCtx → Lowering FnCtx) → Lowers F m ps body → Lowers F m ps (unlessTerminated body)
   unfolding unlessTerminated
-  live-keeps body below cert P W c d e sc I = go (currentBlockTerminated c) refl
-    where
-      go : (t : Bool) → currentBlockTerminated c ≡ t → Moved F m ps cert P W c d
-      go true q = subst (Moved F m ps cert P W c) (ok-inj (rw (q, unlessTerminated) at e)) (stays (same-refl c) sc I)
-      go false q = below cert P W c d (rw (q, unlessTerminated) at e) sc I
+  live-keeps body below cert P W c d e sc I =
+      by-test (currentBlockTerminated c)
+      (λ q. gives (rw (q, unlessTerminated) at e) (stays (same-refl c) sc I))
+      (λ q. below cert P W c d (rw (q, unlessTerminated) at e) sc I)
 
   -- the end of an arm: a Terminator.Jump to a block that is entered with `W` written
   jumps : {cert : ℕ → List ℕ} {P W : List ℕ} (n k j : ℕ) → j < n → cert j ≡ W → cert k ≡ W → (a : FnCtx) (cert′ : ℕ → List ℕ) (W′ : List ℕ) → Agree n cert cert′ → n ≤ a .nextBlock → Sub (cert k) W′ → Inv F m ps cert′ (a .currentBlock ∷ P) [] W′ a → Closed F m ps cert′ P a (terminateIfOpen (Terminator.Jump j) a)
@@ -305,28 +295,38 @@ module _ (F m : ℕ) (ps : List ℕ) where
       leaves T (λ k h. B .agree k (omega (arith, h, A .grows)) ∙ A .agree k h) (omega (arith, A .grows, B .grows)) (B .scopes ∙ (A .scopes ∙ T .scopes)) sub-refl sc (B .inv)
 
 module _ (K : Contract) (m : ℕ) (ps : List ℕ) where
-  return-keeps : (e : OptExpr) (cert : ℕ → List ℕ) (P W : List ℕ) (c d : FnCtx) → lowerReturn K e c ≡ ok d → Sub (localsOf (c .scopes)) W → Inv (fns K) m ps cert (c .currentBlock ∷ P) [] W c → Moved (fns K) m ps cert P W c d
+  -- an expression, then `f`: its value is held, and lowering stands where it stood
+  after-value : {cert : ℕ → List ℕ} {P H W : List ℕ} {c d : FnCtx} {G : Type 0} (x : Expr) (f : FnCtx × Value → Lowering FnCtx) → (lowerExprValue K x c >>= f) ≡ ok d → Sub (localsOf (c .scopes)) W → Inv (fns K) m ps cert P H W c
+      → ((a : FnCtx) (v : ℕ) (t : IrType) → Kept (fns K) m ps cert P H W c (v ∷ []) a → f (a, (v, t)) ≡ ok d → G) → G
+  unfolding lowerExprValue
+  after-value {cert} {P} {H} {W} {c} x f e sc I rest =
+      taking-value (lowerExpr K x c) f e λ a v t ea e₁. rest a v t (expr-keeps K m ps cert P W x H c (a, some (v, t)) ea sc I) e₁
+
+  return-keeps : (e : OptExpr) → Lowers (fns K) m ps (lowerReturn K e)
   unfolding lowerReturn lowerExprValue
-  return-keeps absent cert P W c d e sc I = subst (Moved (fns K) m ps cert P W c) (ok-inj e) (term-stays (Terminator.Return none) (same-refl c) sc (record { reads = sub-nil; goes = λ k h. absurd (in-nil h) }) I)
+  return-keeps absent cert P W c d e sc I = gives e (term-stays (Terminator.Return none) (same-refl c) sc (return-ok none sub-nil) I)
   return-keeps (present x) cert P W c d e sc I =
-      taking-value (lowerExpr K x c) _ e λ a v t ea e₁.
-      let k = expr-keeps K m ps cert (c .currentBlock ∷ P) W x [] c (a, some (v, t)) ea sc I in
-      subst (Moved (fns K) m ps cert P W c) (ok-inj e₁) (term-stays (Terminator.Return (some v)) (k .same) sc (ret-ok v (here refl)) (k .inv))
+      after-value x _ e sc I λ a v t k e₁.
+      gives e₁ (term-stays (Terminator.Return (some v)) (k .same) sc (return-ok (some v) (sub-one (here refl))) (k .inv))
 
   header : ℕ → FnCtx → FnCtx
   header k c = switchTo k (setTerminator (Terminator.Jump k) c)
+
+  -- the header of a loop, entered with `W` written
+  header-keeps : {cert : ℕ → List ℕ} {P H W : List ℕ} {c : FnCtx} {b : FnCtx × ℕ × ℕ × ℕ} (T : Three (fns K) m ps cert P H W c b) → Inv (fns K) m ps (T .cert′) (b .1 ∷ b .2 ∷ b .3 ∷ P) [] W (header (b .1) (b .0))
+  unfolding header setTerminator
+  header-keeps {b = b} T = rw (T .at₁) at (switch-keeps (b .1) (T .in₁) (term-keeps (Terminator.Jump (b .1)) (jump-ok (b .1) (T .in₁) (rw (T .at₁) sub-refl)) (T .inv)))
 
   while-keeps : (x : Expr) (body : FnCtx → Lowering FnCtx) → Lowers (fns K) m ps body → (cert : ℕ → List ℕ) (P W : List ℕ) (c : FnCtx) (b : FnCtx × ℕ × ℕ × ℕ) (a : FnCtx) (v : ℕ) (t : IrType) (d : FnCtx) → threeBlocks c ≡ ok b → lowerExpr K x (header (b .1) (b .0)) ≡ ok (a, some (v, t)) → lowerBody (b .2) [] body (terminateIfOpen (Terminator.Jump (b .1))) (setTerminator (Terminator.Branch v (b .2) (b .3)) a) ≡ ok d → Sub (localsOf (c .scopes)) W → Inv (fns K) m ps cert (c .currentBlock ∷ P) [] W c → Moved (fns K) m ps cert P W c (switchTo (b .3) d)
   unfolding setTerminator switchTo header
   while-keeps x body Lb cert P W c b a v t d eb ea ed sc I =
       let T = three-keeps b eb I in
-      let I₂ = switch-keeps (b .1) (T .in₁) (term-keeps (Terminator.Jump (b .1)) (jump-ok (b .1) (T .in₁) (rw (T .at₁) sub-refl)) (T .inv)) in
-      let k = expr-keeps K m ps (T .cert′) (b .1 ∷ b .2 ∷ b .3 ∷ P) (T .cert′ (b .1)) x [] (header (b .1) (b .0)) (a, some (v, t)) ea (rw (T .at₁, T .scopes) sc) I₂ in
+      let k = expr-keeps K m ps (T .cert′) (b .1 ∷ b .2 ∷ b .3 ∷ P) W x [] (header (b .1) (b .0)) (a, some (v, t)) ea (rw (T .scopes) sc) (header-keeps T) in
       let n : a .nextBlock ≡ b .0 .nextBlock = k .same .nextBlock in
       let in₁ : b .1 < a .nextBlock = omega (arith, n, T .in₁) in
       let in₂ : b .2 < a .nextBlock = omega (arith, n, T .in₂) in
       let in₃ : b .3 < a .nextBlock = omega (arith, n, T .in₃) in
-      let I₃ = term-keeps (Terminator.Branch v (b .2) (b .3)) (branch-ok v (b .2) (b .3) (here refl) in₂ (rw (T .at₂, T .at₁) sub-refl) in₃ (rw (T .at₃, T .at₁) sub-refl)) (at-current (b .1) (k .same .currentBlock) (k .inv)) in
+      let I₃ = term-keeps (Terminator.Branch v (b .2) (b .3)) (branch-ok v (b .2) (b .3) (here refl) in₂ (rw (T .at₂) sub-refl) in₃ (rw (T .at₃) sub-refl)) (at-current (b .1) (k .same .currentBlock) (k .inv)) in
       let A = arm-keeps (b .2) [] body (terminateIfOpen (Terminator.Jump (b .1))) d ed in₂ (rw (T .at₂, k .same .scopes, T .scopes) sc) (λ y ey s J. Lb (T .cert′) (b .3 ∷ P) (T .cert′ (b .2)) _ y ey s J) (jumps (fns K) m ps (a .nextBlock) (b .2) (b .1) in₁ (T .at₁) (T .at₂)) I₃ in
       leaves T (λ j h. A .agree j (omega (arith, n, h))) (omega (arith, n, A .grows)) (A .scopes ∙ (k .same .scopes ∙ T .scopes)) sub-refl sc (A .inv)
 
@@ -334,8 +334,7 @@ module _ (K : Contract) (m : ℕ) (ps : List ℕ) where
   unfolding setTerminator switchTo header
   for-keeps n body Lb cert P H W X a i e b d eb ed hi he keep sc I =
       let T = three-keeps b eb I in
-      let I₂ = switch-keeps (b .1) (T .in₁) (term-keeps (Terminator.Jump (b .1)) (jump-ok (b .1) (T .in₁) (rw (T .at₁) sub-refl)) (T .inv)) in
-      let Z = test-keeps i e (b .2) (b .3) (rw (T .at₁) hi) (rw (T .at₁) he) (T .in₂) (T .in₃) (rw (T .at₂, T .at₁) sub-refl) (rw (T .at₃, T .at₁) sub-refl) I₂ in
+      let Z = test-keeps i e (b .2) (b .3) hi he (T .in₂) (T .in₃) (rw (T .at₂) sub-refl) (rw (T .at₃) sub-refl) (header-keeps T) in
       let n₁ : forHeader i e (b .2) (b .3) (header (b .1) (b .0)) .nextBlock ≡ b .0 .nextBlock = Z .nextBlock in
       let A = arm-keeps (b .2) ((n, i, IrType.U64) ∷ []) body (forStep i (b .1)) d ed (omega (arith, n₁, T .in₂)) (rw (T .at₂, Z .scopes, T .scopes) (sub-pair hi (sub-trans sc keep))) (λ y ey s J. Lb (T .cert′) (b .3 ∷ P) (T .cert′ (b .2)) _ y ey s J) (λ y cert″ W″ agree grows sub J. loop-keeps i (b .1) (sub i (rw (T .at₂) hi)) (omega (arith, n₁, grows, T .in₁)) (rw (agree (b .1) (omega (arith, n₁, T .in₁)) ∙ T .at₁) (rw (T .at₂) at sub)) J) (Z .inv) in
       leaves T (λ j h. A .agree j (omega (arith, n₁, h))) (omega (arith, n₁, A .grows)) (A .scopes ∙ (Z .scopes ∙ T .scopes)) keep sc (A .inv)
@@ -343,70 +342,63 @@ module _ (K : Contract) (m : ℕ) (ps : List ℕ) where
   mutual
     unfolding lowerStmt lowerExprValue header
 
-    pub stmt-keeps : (s : Stmt) (cert : ℕ → List ℕ) (P W : List ℕ) (c d : FnCtx) → lowerStmt K s c ≡ ok d → Sub (localsOf (c .scopes)) W → Inv (fns K) m ps cert (c .currentBlock ∷ P) [] W c → Moved (fns K) m ps cert P W c d
+    pub stmt-keeps : (s : Stmt) → Lowers (fns K) m ps (λ x. lowerStmt K s x)
     stmt-keeps (Stmt.Let p n x) cert P W c d e sc I =
-        taking-value (lowerExpr K x c) _ e λ a v t ea e₁.  -- the name is not held yet
+        after-value x _ e sc I λ a v t k e₁.  -- the name is not held yet
         taking (initLocal t v a) _ e₁ λ l el e₂.
-        let k = expr-keeps K m ps cert (c .currentBlock ∷ P) W x [] c (a, some (v, t)) ea sc I in
         let h = hold-keeps t v l el (here refl) (k .inv) in
-        subst (Moved (fns K) m ps cert P W c) (ok-inj e₂) (defines n (l .1) t (l .0) (same-trans (k .same) (h .same)) sc (h .inv))
+        gives e₂ (defines n (l .1) t (l .0) (same-trans (k .same) (h .same)) sc (h .inv))
     stmt-keeps (Stmt.Constrain p x) cert P W c d e sc I =
-        taking-value (lowerExpr K x c) _ e λ a v t ea e₁.
-        let k = expr-keeps K m ps cert (c .currentBlock ∷ P) W x [] c (a, some (v, t)) ea sc I in
-        subst (Moved (fns K) m ps cert P W c) (ok-inj e₁) (stays (same-trans (k .same) (push-same (Instruction.Assert v) a)) sc (push-keeps (Instruction.Assert v) (quiet (Instruction.Assert v) refl refl refl (sub-pair (here refl) sub-nil)) (k .inv)))
+        after-value x _ e sc I λ a v t k e₁.
+        gives e₁ (pushes (Instruction.Assert v) (quiet _ refl refl refl (sub-one (here refl))) sc k)
     stmt-keeps (Stmt.Assign p n x) cert P W c d e sc I =
-        taking-value (lowerExpr K x c) _ e λ a v t ea e₁.
+        after-value x _ e sc I λ a v t k e₁.
         taking-some (lookupLocal n (a .scopes)) (LoweringError.UndefinedVariable n) _ e₁ λ l el e₂.
-        let k = expr-keeps K m ps cert (c .currentBlock ∷ P) W x [] c (a, some (v, t)) ea sc I in
         let w : In (l .0) W = sc (l .0) (lookup-in n (c .scopes) l (rw (k .same .scopes) at el)) in
-        subst (Moved (fns K) m ps cert P W c) (ok-inj e₂) (stays (same-trans (k .same) (push-same (Instruction.WriteLocal (l .0) v) a)) sc (weaken sub-refl (sub-there sub-refl) (push-keeps (Instruction.WriteLocal (l .0) v) (write-may (l .0) v (here refl) (k .inv .bounded (l .0) w)) (k .inv))))
+        gives e₂ (pushes (Instruction.WriteLocal (l .0) v) (write-may (l .0) v (here refl) (k .inv .spot .bounded (l .0) w)) sc k)
     stmt-keeps (Stmt.StorageWrite p n x) cert P W c d e sc I =
         taking-some (storageNamed K n) (LoweringError.UndefinedVariable n) _ e λ s es e₁.
-        taking-value (lowerExpr K x c) _ e₁ λ a v t ea e₂.
-        let k = expr-keeps K m ps cert (c .currentBlock ∷ P) W x [] c (a, some (v, t)) ea sc I in
-        subst (Moved (fns K) m ps cert P W c) (ok-inj e₂) (stays (same-trans (k .same) (push-same (Instruction.StateWrite (s .0) v) a)) sc (push-keeps (Instruction.StateWrite (s .0) v) (quiet (Instruction.StateWrite (s .0) v) refl refl refl (sub-pair (here refl) sub-nil)) (k .inv)))
+        after-value x _ e₁ sc I λ a v t k e₂.
+        gives e₂ (pushes (Instruction.StateWrite (s .0) v) (quiet _ refl refl refl (sub-one (here refl))) sc k)
     stmt-keeps (Stmt.MappingWrite p n x y) cert P W c d e sc I = absurd (err-ok e)
     stmt-keeps (Stmt.If p x pt th el) cert P W c d e sc I =
-        taking-value (lowerExpr K x c) _ e λ a v t ea e₁.
+        after-value x _ e sc I λ a v t k e₁.
         taking (threeBlocks a) _ e₁ λ b eb e₂.
         taking (lowerBody (b .1) [] (λ y. lowerStmts K th y) (terminateIfOpen (Terminator.Jump (b .3))) (setTerminator (Terminator.Branch v (b .1) (b .2)) (b .0))) _ e₂ λ f ef e₃.
         taking (lowerBody (b .2) [] (λ y. lowerElse K el y) (terminateIfOpen (Terminator.Jump (b .3))) f) _ e₃ λ g eg e₄.
-        let k = expr-keeps K m ps cert (c .currentBlock ∷ P) W x [] c (a, some (v, t)) ea sc I in
-        subst (Moved (fns K) m ps cert P W c) (ok-inj e₄) (shift (k .same) (if-keeps (fns K) m ps (λ y. lowerStmts K th y) (λ y. lowerElse K el y) (λ cert P W c d e sc I. stmts-keep th cert P W c d e sc I) (λ cert P W c d e sc I. else-keeps el cert P W c d e sc I) cert P W a v b f g eb ef eg (rw (k .same .scopes) sc) (at-current (c .currentBlock) (k .same .currentBlock) (k .inv))))
+        gives e₄ (shift (k .same) (if-keeps (fns K) m ps (λ y. lowerStmts K th y) (λ y. lowerElse K el y) (λ cert P W c d e sc I. stmts-keep th cert P W c d e sc I) (λ cert P W c d e sc I. else-keeps el cert P W c d e sc I) cert P W a v b f g eb ef eg (rw (k .same .scopes) sc) (at-current (c .currentBlock) (k .same .currentBlock) (k .inv))))
     stmt-keeps (Stmt.While p x pb body) cert P W c d e sc I =
         taking (threeBlocks c) _ e λ b eb e₁.
         taking-value (lowerExpr K x (switchTo (b .1) (setTerminator (Terminator.Jump (b .1)) (b .0)))) _ e₁ λ a v t ea e₂.
         taking (lowerBody (b .2) [] (λ y. lowerStmts K body y) (terminateIfOpen (Terminator.Jump (b .1))) (setTerminator (Terminator.Branch v (b .2) (b .3)) a)) _ e₂ λ f ef e₃.
-        subst (Moved (fns K) m ps cert P W c) (ok-inj e₃) (while-keeps x (λ y. lowerStmts K body y) (λ cert P W c d e sc I. stmts-keep body cert P W c d e sc I) cert P W c b a v t f eb ea ef sc I)
+        gives e₃ (while-keeps x (λ y. lowerStmts K body y) (λ cert P W c d e sc I. stmts-keep body cert P W c d e sc I) cert P W c b a v t f eb ea ef sc I)
     stmt-keeps (Stmt.For p n x y pb body) cert P W c d e sc I =
-        taking-value (lowerExpr K x c) _ e λ a v t ea e₁.
-        taking-value (lowerExpr K y a) _ e₁ λ a′ w u ea′ e₂.
+        after-value x _ e sc I λ a v t k e₁.
+        after-value y _ e₁ (rw (k .same .scopes) sc) (k .inv) λ a′ w u j e₂.
         taking (initLocal IrType.U64 v a′) _ e₂ λ i ei e₃.
         taking (initLocal IrType.U64 w (i .0)) _ e₃ λ l el e₄.
         taking (threeBlocks (l .0)) _ e₄ λ b eb e₅.
         taking (lowerBody (b .2) ((n, i .1, IrType.U64) ∷ []) (λ z. lowerStmts K body z) (forStep (i .1) (b .1)) (forHeader (i .1) (l .1) (b .2) (b .3) (switchTo (b .1) (setTerminator (Terminator.Jump (b .1)) (b .0))))) _ e₅ λ f ef e₆.
-        let k = expr-keeps K m ps cert (c .currentBlock ∷ P) W x [] c (a, some (v, t)) ea sc I in
-        let j = expr-keeps K m ps cert (c .currentBlock ∷ P) W y (v ∷ []) a (a′, some (w, u)) ea′ (rw (k .same .scopes) sc) (k .inv) in
         let h = hold-keeps IrType.U64 v i ei (there (here refl)) (j .inv) in
         let g = hold-keeps IrType.U64 w l el (here refl) (h .inv) in
         let s = same-trans (k .same) (same-trans (j .same) (same-trans (h .same) (g .same))) in
-        subst (Moved (fns K) m ps cert P W c) (ok-inj e₆) (shift s (for-keeps n (λ z. lowerStmts K body z) (λ cert P W c d e sc I. stmts-keep body cert P W c d e sc I) cert P (w ∷ v ∷ []) W (l .1 ∷ i .1 ∷ W) (l .0) (i .1) (l .1) b f eb ef (there (here refl)) (here refl) (sub-there (sub-there sub-refl)) (rw (s .scopes) sc) (at-current (c .currentBlock) (s .currentBlock) (g .inv))))
+        gives e₆ (shift s (for-keeps n (λ z. lowerStmts K body z) (λ cert P W c d e sc I. stmts-keep body cert P W c d e sc I) cert P (w ∷ v ∷ []) W (l .1 ∷ i .1 ∷ W) (l .0) (i .1) (l .1) b f eb ef (there (here refl)) (here refl) (sub-there (sub-there sub-refl)) (rw (s .scopes) sc) (at-current (c .currentBlock) (s .currentBlock) (g .inv))))
     stmt-keeps (Stmt.Return p x) cert P W c d e sc I = return-keeps x cert P W c d e sc I
     stmt-keeps (Stmt.Emit p n xs) cert P W c d e sc I =
         taking (lowerArgs K xs c) _ e λ a ea e₁.
         let k = args-keep K m ps cert (c .currentBlock ∷ P) W xs [] c a ea sc I in
-        subst (Moved (fns K) m ps cert P W c) (ok-inj e₁) (stays (same-trans (k .same) (push-same (Instruction.Emit n (a .1)) (a .0))) sc (push-keeps (Instruction.Emit n (a .1)) (quiet (Instruction.Emit n (a .1)) refl refl refl (in-left (a .1) [])) (k .inv)))
+        gives e₁ (pushes (Instruction.Emit n (a .1)) (quiet _ refl refl refl (in-left (a .1) [])) sc k)
     stmt-keeps (Stmt.ExprStmt p x) cert P W c d e sc I =
         taking (lowerExpr K x c) _ e λ a ea e₁.
         let k = expr-keeps K m ps cert (c .currentBlock ∷ P) W x [] c a ea sc I in
-        subst (Moved (fns K) m ps cert P W c) (ok-inj e₁) (stays (k .same) sc (k .inv))
+        gives e₁ (stays (k .same) sc (k .inv))
 
-    pub stmts-keep : (ss : Stmts) (cert : ℕ → List ℕ) (P W : List ℕ) (c d : FnCtx) → lowerStmts K ss c ≡ ok d → Sub (localsOf (c .scopes)) W → Inv (fns K) m ps cert (c .currentBlock ∷ P) [] W c → Moved (fns K) m ps cert P W c d
-    stmts-keep snil cert P W c d e sc I = subst (Moved (fns K) m ps cert P W c) (ok-inj e) (stays (same-refl c) sc I)
+    pub stmts-keep : (ss : Stmts) → Lowers (fns K) m ps (λ x. lowerStmts K ss x)
+    stmts-keep snil cert P W c d e sc I = gives e (stays (same-refl c) sc I)
     stmts-keep (scons s ss) cert P W c d e sc I =
         taking (unlessTerminated (λ x. lowerStmt K s x) c) _ e λ a ea e₁.
-        then′ (live-keeps (fns K) m ps (λ x. lowerStmt K s x) (λ cert P W c d e sc I. stmt-keeps s cert P W c d e sc I) cert P W c a ea sc I) (λ M. stmts-keep ss (M .cert′) P (M .W′) a d e₁ (M .scoped) (M .inv))
+        then (live-keeps (fns K) m ps (λ x. lowerStmt K s x) (λ cert P W c d e sc I. stmt-keeps s cert P W c d e sc I) cert P W c a ea sc I) (λ M. stmts-keep ss (M .cert′) P (M .W′) a d e₁ (M .scoped) (M .inv))
 
-    pub else-keeps : (ss : OptStmts) (cert : ℕ → List ℕ) (P W : List ℕ) (c d : FnCtx) → lowerElse K ss c ≡ ok d → Sub (localsOf (c .scopes)) W → Inv (fns K) m ps cert (c .currentBlock ∷ P) [] W c → Moved (fns K) m ps cert P W c d
-    else-keeps noElse cert P W c d e sc I = subst (Moved (fns K) m ps cert P W c) (ok-inj e) (stays (same-refl c) sc I)
+    pub else-keeps : (ss : OptStmts) → Lowers (fns K) m ps (λ x. lowerElse K ss x)
+    else-keeps noElse cert P W c d e sc I = gives e (stays (same-refl c) sc I)
     else-keeps (elseDo p ss) cert P W c d e sc I = stmts-keep ss cert P W c d e sc I

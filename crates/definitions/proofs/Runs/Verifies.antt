@@ -2,22 +2,22 @@
 use Prim.Native.Nat.{ℕ, zero, suc, _<_, _≤_, _+_}
 use mathlib.Core.Path.{_≡_, refl, sym, _∙_, ap, subst}
 use mathlib.Core.Logic.{_⊎_, inl, inr, _≢_}
-use mathlib.Core.List.{List, [], _∷_, _++_, append-assoc}
+use mathlib.Core.List.{List, [], _∷_, _++_}
 use mathlib.Core.Option.{Option, none, some}
 use mathlib.Core.Bool.{Bool, true, false, _&&_}
 use lib.Dec.{eqb, ltb}
 use lib.ListN.{length}
 use native.Mathlib.Omega.{arith}
-use borrow.Author.Tests.{eqb-true, eqb-false, eq-eqb, ne-eqb, lt-ltb}
+use borrow.Author.Tests.{eqb-false, eq-eqb, ne-eqb, lt-ltb}
 use Rattle.definitions.specs.Result.{Result, err, ok, _>>=_, _>>_, okOrElse, mapErr, Done, check}
 use Rattle.definitions.specs.Ast.{Contract, Function}
 use Rattle.definitions.specs.Ir.{IrType, eqType, Instruction, resultType, operands, localRead, localWritten, Terminator, InstrNode, BasicBlock, IrFunction, IrProgram, find, contains}
 use Rattle.definitions.specs.Lower.{lowerContract, lowerFunctions, lowerFunction}
 use Rattle.definitions.specs.Verify.{VerifyError, Checked, Defined, definedType, insert, defineParams, defineResult, defineResults, defineBlocks, checkValueRef, checkValueRefs, checkBlockRef, checkLocalRef, verifyInstr, verifyInstrs, returnMatches, returnedType, verifyTerminator, blockIds, verifyBlock, verifyBlocks, verifyFunction, functionIds, verifyFunctions, verifyProgram}
 use Rattle.definitions.specs.Run.{termReads}
-use Rattle.definitions.proofs.Results.{some-none, ok-inj, taking}
-use Rattle.definitions.proofs.Runs.Safe.{callees, In, here, there, Sub, sub-refl, sub-trans, sub-there, sub-cons, sub-nil, in-nil, sub-pair, in-left, in-right, in-either, withResult, NodeOk, Ok, heldAfter, writtenAfter, TermOk, entryHeld, BlockOk, ids, GoodFn, find-hit, find-miss}
-use Rattle.definitions.proofs.Runs.Invariant.{results, defs, Distinct}
+use Rattle.definitions.proofs.Results.{by-test, ok-inj, taking}
+use Rattle.definitions.proofs.Runs.Safe.{callees, In, here, there, Sub, sub-refl, sub-trans, sub-nil, in-nil, sub-pair, in-left, in-right, in-either, withResult, Ok, heldAfter, writtenAfter, TermOk, entryHeld, BlockOk, ids, GoodFn, find-hit, find-miss}
+use Rattle.definitions.proofs.Runs.Blocks.{results, defs, Distinct, found-in}
 use Rattle.definitions.proofs.Runs.Expressions.{fns}
 use Rattle.definitions.proofs.Runs.Functions.{FnOk, Each, none-left, one-more, contract-ok}
 
@@ -210,24 +210,12 @@ module _ (F L : ℕ) (fids : List ℕ) (all : (f : ℕ) → f < F → contains f
 
 in-contains : (l : List ℕ) {n : ℕ} → In n l → contains n l ≡ true
 in-contains (x ∷ l) {n} (here e) = rw (eq-eqb x n e, contains)
-in-contains (x ∷ l) {n} (there h) = go (eqb x n) refl (in-contains l h)
-  where
-    go : (t : Bool) → eqb x n ≡ t → contains n l ≡ true → contains n (x ∷ l) ≡ true
-    go true q below = rw (q, contains)
-    go false q below = rw (q, contains) below
+in-contains (x ∷ l) {n} (there h) = by-test (eqb x n) (λ q. rw (q, contains)) (λ q. rw (q, contains) (in-contains l h))
 
 -- ---- every block of the list, where no id stands twice
 abbrev All : (BasicBlock → Type 0) → List BasicBlock → Type 0
 All P [] = Unit {0}
 All P (b ∷ bs) = P b × All P bs
-
-found-in : (k : ℕ) (bs : List BasicBlock) (b : BasicBlock) → find k bs ≡ some b → In k (blockIds bs)
-found-in k [] b e = absurd (some-none b (sym e))
-found-in k (x ∷ bs) b e = go (eqb (x .id) k) refl (found-in k bs b)
-  where
-    go : (t : Bool) → eqb (x .id) k ≡ t → (find k bs ≡ some b → In k (blockIds bs)) → In k (x .id ∷ blockIds bs)
-    go true q below = here (eqb-true (x .id) k q)
-    go false q below = there (below (sym (find-miss k x bs q) ∙ e))
 
 every : (P : BasicBlock → Type 0) (bs : List BasicBlock) → Distinct (blockIds bs) → ((k : ℕ) (b : BasicBlock) → find k bs ≡ some b → P b) → All P bs
 every P [] d f = tt
@@ -310,13 +298,12 @@ module _ (F : ℕ) (fids : List ℕ) (all : (f : ℕ) → f < F → contains f f
 -- ---- the program
 has-fid : (F i : ℕ) (gs : List IrFunction) → Each F i gs → (f : ℕ) → i ≤ f → f < i + length gs → contains f (functionIds gs) ≡ true
 has-fid F i [] none-left f h l = absurd (omega arith)
-has-fid F i (g ∷ gs) (one-more o rest) f h l = go (eqb (g .id) f) refl (has-fid F (suc i) gs rest f)
-  where
-    go : (t : Bool) → eqb (g .id) f ≡ t → (suc i ≤ f → f < suc i + length gs → contains f (functionIds gs) ≡ true) → contains f (functionIds (g ∷ gs)) ≡ true
-    go true q below = rw (q, contains)
-    go false q below =
-        let ne : i ≢ f = λ e. eqb-false (g .id) f q (o .id ∙ e) in
-        rw (q, contains) (below (omega arith) (omega arith))
+has-fid F i (g ∷ gs) (one-more o rest) f h l =
+    by-test (eqb (g .id) f)
+    (λ q. rw (q, contains))
+    (λ q.
+    let ne : i ≢ f = λ e. eqb-false (g .id) f q (o .id ∙ e) in
+    rw (q, contains) (has-fid F (suc i) gs rest f (omega arith) (omega arith)))
 
 functions-length : (K : Contract) (i : ℕ) (fs : List Function) (gs : List IrFunction) → lowerFunctions K i fs ≡ ok gs → length gs ≡ length fs
 unfolding lowerFunctions

@@ -1,15 +1,15 @@
 -- The values of a record whose first fields are single entries, by position. Assumes nothing.
-use mathlib.Core.Path.{_≡_, refl, ap, sym, _∙_, subst}
+use mathlib.Core.Path.{_≡_, refl, ap, _∙_}
 use mathlib.Core.Bool.{Bool, true, false}
 use mathlib.Core.List.{List, [], _∷_, _++_, map}
 use Prim.Native.Nat.{ℕ, _+_, _-_, _*_, _≤_}
 use native.Mathlib.Omega.{arith}
 use lib.Dec.{leb, eqb}
-use borrow.Author.Tests.{leb-true, eqb-false, ne-eqb}
+use borrow.Author.Tests.{leb-true, ne-eqb}
 use Rattle.definitions.specs.Fields.{le}
-use Rattle.definitions.specs.Grammar.{Entry, Field, single, counted}
+use Rattle.definitions.specs.Grammar.{Class, Entry, Field, single, counted, Pattern}
 use Rattle.definitions.specs.Records.{pick, Value, item, group, sizeOf, okItem, okItems, readItem, readItems, past, readValue, pastAll, readValues}
-use Rattle.definitions.proofs.Sheets.Passed.{past-zero}
+use Rattle.definitions.proofs.Sheets.Passed.{Head, past-zero}
 
 -- the entries from `at + off` on, their values, where they end, and that each is valid
 unfoldable pub itemsFrom : List Entry → List ℕ → ℕ → ℕ → List Value
@@ -49,14 +49,14 @@ rest-passed f fs s stop at h = go (eqb at 0) h
     go false k = k
 
 -- THE LAW: a record's values are these, then what the fields after them give; and the children start where those end
-pub record Singles (es : List Entry) (fs : List Field) (s : List ℕ) (stop at off : ℕ) : Type 0 where
-  pub values : readValues (map single es ++ fs) s stop (at + off) ≡ itemsFrom es s at off ++ readValues fs s stop (at + after es off)
-  pub past : pastAll (map single es ++ fs) s stop (at + off) ≡ pastAll fs s stop (at + after es off)
-  pub more : pastAll fs s stop (at + after es off) ≡ 0 → ⊥
-  pub valid : Valid es s at off
-  pub fits : at + off ≤ stop → at + after es off ≤ stop
+record Singles (es : List Entry) (fs : List Field) (s : List ℕ) (stop at off : ℕ) : Type 0 where
+  values : readValues (map single es ++ fs) s stop (at + off) ≡ itemsFrom es s at off ++ readValues fs s stop (at + after es off)
+  past : pastAll (map single es ++ fs) s stop (at + off) ≡ pastAll fs s stop (at + after es off)
+  more : pastAll fs s stop (at + after es off) ≡ 0 → ⊥
+  valid : Valid es s at off
+  fits : at + off ≤ stop → at + after es off ≤ stop
 
-pub singles : (es : List Entry) (fs : List Field) (s : List ℕ) (stop at off : ℕ) → (pastAll (map single es ++ fs) s stop (at + off) ≡ 0 → ⊥) → Singles es fs s stop at off
+singles : (es : List Entry) (fs : List Field) (s : List ℕ) (stop at off : ℕ) → (pastAll (map single es ++ fs) s stop (at + off) ≡ 0 → ⊥) → Singles es fs s stop at off
 unfolding itemsFrom after Valid readValues readValue pastAll
 singles [] fs s stop at off h = record { values = refl; past = refl; more = h; valid = tt; fits = λ z. z }
 singles (e ∷ es) fs s stop at off h =
@@ -72,6 +72,19 @@ singles (e ∷ es) fs s stop at off h =
       valid = (o .ok, i .valid);
       fits = λ z. i .fits (omega (arith, o .fits));
     }
+
+-- the same of a record that passed, whose children start at b
+pub record Starts (es : List Entry) (fs : List Field) (s : List ℕ) (at b stop : ℕ) : Type 0 where
+  pub values : readValues (map single es ++ fs) s stop (at + 6) ≡ itemsFrom es s at 6 ++ readValues fs s stop (at + after es 6)
+  pub body : b ≡ pastAll fs s stop (at + after es 6)
+  pub more : pastAll fs s stop (at + after es 6) ≡ 0 → ⊥
+  pub valid : Valid es s at 6
+  pub fits : at + after es 6 ≤ stop
+
+pub starts : {c : Class} {p : Pattern} {s : List ℕ} {at end b stop : ℕ} (es : List Entry) (fs : List Field) → Head s at end c (map single es ++ fs) p b stop → Starts es fs s at b stop
+starts {s = s} {at = at} {stop = stop} es fs hd =
+    let S : Singles es fs s stop at 6 = singles es fs s stop at 6 (λ z. omega (arith, hd .body-is, hd .low, z)) in
+    record { values = S .values; body = hd .body-is ∙ S .past; more = S .more; valid = S .valid; fits = S .fits (omega (arith, hd .low, hd .mid)) }
 
 -- a counted field, and then the others
 pub record Counted (e : Entry) (fs : List Field) (s : List ℕ) (stop at : ℕ) : Type 0 where

@@ -12,8 +12,8 @@ use Rattle.exprs.proofs.lower_expr_value.Reads as lower-expr-value
 use Rattle.exprs.proofs.lower_expr_value.Kinds as lower-expr-value-kinds
 use Rattle.exprs.proofs.+lower_call+lower_expr+lower_expr_value.Lts-lower_expr_value as lower-expr-value-lts
 use Rattle.emit.proofs.next.Reads as next-reads
-use Rattle.fields.proofs.read.Reads as read-reads
-use Rattle.fields.proofs.read_u16.Reads as read-u16-reads
+use Rattle.reader.proofs.read.Reads as read-reads
+use Rattle.reader.proofs.read_u16.Reads as read-u16-reads
 use Rattle.ir.proofs.Name.new.Reads as new-reads
 use Rattle.exprs.proofs.calls.callee.Reads as callee-reads
 use Rattle.exprs.proofs.calls.finish_call.Reads as finish-call-reads

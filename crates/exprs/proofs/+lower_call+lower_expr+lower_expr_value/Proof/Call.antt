@@ -11,18 +11,20 @@ use lib.ListN.{length}
 use Rattle.definitions.specs.Grammar.{Class, many, done}
 use Rattle.definitions.specs.ContractSheet.{readContract}
 use Rattle.nodes.specs.Ready.{Ready, exprAt}
-use Rattle.nodes.proofs.Children.{bounds}
+use Rattle.nodes.proofs.Children.{bounds, size-fits}
 use Rattle.nodes.proofs.Exprs.{CallAt, call-at}
 use Rattle.walk.specs.Log.{logOf}
 use Rattle.walk.specs.Exprs.{walkExpr}
 use Rattle.names.specs.Entries.{entriesOf}
 use Rattle.exprs.specs.Exprs.{calleeOf}
-use Rattle.exprs.proofs.CallSteps.{Going, call-starts, turn, goes-on, refuses, finishes}
+use Rattle.exprs.specs.Calls.{finishCall}
+use Rattle.exprs.proofs.ArgSteps.{Going, turn, goes-on, refuses, finishes}
+use Rattle.exprs.proofs.CallSteps.{call-starts}
 use Rattle.exprs.proofs.ExprSteps.{gave, refused}
 
 abbrev pub Inv-loop : lts.InvT-loop
 Inv-loop s at depth entries count log₀ to stop callee arg₀ ids₀ n₀ value₀ to₀ log arg ids n value to' =
-    Going s depth (entriesOf entries count) (calleeOf callee) (walkExpr (readContract s) (entriesOf entries count) (exprAt s at) (logOf log₀ (value₀ .0) to₀)) stop arg ids n (logOf log (value .0) to')
+    Going s (depth - 1) (entriesOf entries count) (finishCall (calleeOf callee)) (walkExpr (readContract s) (entriesOf entries count) (exprAt s at) (logOf log₀ (value₀ .0) to₀)) stop arg ids n (logOf log (value .0) to')
 
 abbrev pub μ-loop : lts.MeasureT-loop
 μ-loop s at depth entries count log₀ to stop callee arg₀ ids₀ n₀ value₀ to₀ log arg ids n value to' =
@@ -97,7 +99,7 @@ pub add-n : (t : ℕ) → lts.Need-add-n (R-lower-call t) (lower-call-at t) read
 add-n t c = let u = turn (c .before .before .before .before .before .before .loop .inv) (c .before .before .before .before .before .loop-test .taken) in omega (arith, u .room)
 
 pub read-requires-2 : (t : ℕ) → lts.Need-read-requires-2 (R-lower-call t) (lower-call-at t) reads.Post Inv-loop μ-loop
-read-requires-2 t c κs = let b = bounds (turn (c .before .before .before .before .before .before .loop .inv) (c .before .before .before .before .before .loop-test .taken) .more .ready) in (omega (arith, b .low, b .high), omega arith)
+read-requires-2 t c κs = size-fits (turn (c .before .before .before .before .before .before .loop .inv) (c .before .before .before .before .before .loop-test .taken) .more .ready)
 
 pub add-arg : (t : ℕ) → lts.Need-add-arg (R-lower-call t) (lower-call-at t) reads.Post Inv-loop μ-loop
 add-arg t c = let b = bounds (turn (c .before .before .before .before .before .before .before .loop .inv) (c .before .before .before .before .before .before .loop-test .taken) .more .ready) in omega (arith, b .high, c .read2 .ensures .0, short t (c .before .before .before .before .before .before .before .before .before .before .before .before .before .before .before))

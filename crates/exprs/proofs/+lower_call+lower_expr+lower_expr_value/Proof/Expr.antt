@@ -77,7 +77,7 @@ pub sub-lower-expr-value : (t : ℕ) → lts.Need-sub-lower-expr-value (R-lower-
 sub-lower-expr-value t c = bounds (ready t (c .before .before .before)) .deep
 
 pub lower-expr-value-requires : (t : ℕ) → lts.Need-lower-expr-value-requires (R-lower-expr t) (lower-expr-at t) reads.Post
-lower-expr-value-requires t c κs = (omega (arith, bounds (ready t (c .before .before .before .before)) .deep, c .before .before .before .before .pre .0), (access-at (ready t (c .before .before .before .before)) (sym (c .before .before .read .ensures .0) ∙ c .before .match .keys5) .first, c .before .before .before .before .pre .1 .1))
+lower-expr-value-requires t c κs = (omega (arith, bounds (ready t (c .before .before .before .before)) .deep, c .before .before .before .before .pre .0), (access-at (ready t (c .before .before .before .before)) (sym (c .before .before .read .ensures .0) ∙ c .before .match .keys5) .value, c .before .before .before .before .pre .1 .1))
 
 pub add-read-u16-3 : (t : ℕ) → lts.Need-add-read-u16-3 (R-lower-expr t) (lower-expr-at t) reads.Post
 add-read-u16-3 t c = omega (arith, room t (c .before .before .before .before .before), short t (c .before .before .before .before .before))

@@ -5,7 +5,8 @@ use native.Mathlib.Omega.{arith}
 use Rattle.definitions.specs.ContractSheet.{readContract}
 use Rattle.definitions.specs.Records.{optFrom}
 use Rattle.definitions.specs.Sema as sema
-use Rattle.nodes.proofs.Tops.{function, function-at}
+use Rattle.definitions.proofs.Contracts.Limits.{function}
+use Rattle.nodes.proofs.Tops.{function-at}
 use Rattle.names.specs.Answers.{Placed}
 use Rattle.names.proofs.Lasts.{position-low}
 use Rattle.names.proofs.Symbolic.{function-is, signature-here, no-signature}

@@ -5,7 +5,7 @@ use native.Mathlib.Omega.{arith}
 use borrow.Author.Needs.{needs}
 use borrow.Fn.Kinds.{In}
 use borrow.Fn.PlainCycle.{Measures, is, falls, and}
-use Rattle.fields.proofs.read.Reads as read
+use Rattle.reader.proofs.read.Reads as read
 use Rattle.sheet.specs.Passed.{Standing}
 use Rattle.sheet.proofs.Within.{Limiting, Clear, over-now, stands, spans, too-deep, one-too-many, too-wide, clears, children-good, children-bad, no-children, kids-passed}
 use Rattle.sheet.proofs.limits.one_if.Reads as one-if

@@ -6,7 +6,7 @@ use borrow.Author.Needs.{needs}
 use borrow.Author.Tests.{not-true, not-false}
 use borrow.Fn.Kinds.{In}
 use borrow.Fn.PlainCycle.{Measures, is, falls, and}
-use Rattle.fields.proofs.read.Reads as read
+use Rattle.reader.proofs.read.Reads as read
 use Rattle.sheet.proofs.Checks.{Going, over-good, over-bad, not-there, there, not-valid, Entered, enters, children-good, children-bad, none-good, none-bad}
 use Rattle.sheet.proofs.Heads.{class-small, Begun}
 use Rattle.sheet.proofs.entries.past_fields.Reads as past-fields

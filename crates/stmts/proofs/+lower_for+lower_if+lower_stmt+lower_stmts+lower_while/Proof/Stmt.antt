@@ -1,119 +1,91 @@
 -- What `lower_stmt` leaves: the kind that was read is the statement's. Assumes nothing.
 use mathlib.Core.Path.{_≡_, sym, _∙_, subst}
-use Prim.Native.Nat.{ℕ, _≤_}
+use Prim.Native.Nat.{ℕ, _+_, _*_, _<_, _≤_}
 use native.Mathlib.Omega.{arith}
+use borrow.Fn.Kinds.{In, Out}
+use borrow.Author.Needs.{needs}
 use Rattle.sheet.specs.Passed.{kindOf}
 use Rattle.nodes.proofs.Children.{bounds}
 use Rattle.definitions.specs.Grammar.{Class}
 use Rattle.nodes.specs.Ready.{Checked, Ready}
 use Rattle.nodes.proofs.Stmts.{Last, last-kind, mapping-at}
 use Rattle.flow.specs.Flows.{Sound}
+use Rattle.names.specs.declared.Scopes.{Scopes}
 use Rattle.stmts.proofs.StmtSteps.{mapping-refused}
 use Rattle.stmts.proofs.+lower_for+lower_if+lower_stmt+lower_stmts+lower_while.Proof.Base.{lower-stmt-at, R-lower-stmt}
-use Rattle.stmts.proofs.+lower_for+lower_if+lower_stmt+lower_stmts+lower_while.Lts-lower_stmt as lower-stmt-lts
+use Rattle.stmts.proofs.+lower_for+lower_if+lower_stmt+lower_stmts+lower_while.Lts-lower_stmt as lts
 use Rattle.stmts.proofs.lower_stmt.Reads as lower-stmt
 
-abbrev Read : ℕ → Type 0
-Read t = lower-stmt-lts.After-read (R-lower-stmt t) (lower-stmt-at t) lower-stmt.Post
+module _ (t : ℕ) where
+  -- a place or a need of `lower_stmt` at the measure t
+  abbrev At : (lts.Claims → In 6 lts.ps → Out 6 lts.ps lts.r → Type 0) → Type 0
+  At X = X (R-lower-stmt t) (lower-stmt-at t) lower-stmt.Post
 
-abbrev first : {t : ℕ} → Read t → lower-stmt-lts.Start (R-lower-stmt t) (lower-stmt-at t) lower-stmt.Post
-first c = c .before .before
+  abbrev first : At lts.After-read → At lts.Start
+  first c = c .before .before
 
-kind : (t : ℕ) (c : Read t) (k : ℕ) → c .read .result ≡ k → kindOf (first c .args .s .now) (first c .args .at) ≡ k
-kind t c k e = sym (c .read .ensures .0) ∙ e
+  kind : (c : At lts.After-read) (k : ℕ) → c .read .result ≡ k → kindOf (first c .args .s .now) (first c .args .at) ≡ k
+  kind c k e = sym (c .read .ensures .0) ∙ e
 
--- what a function of one kind asks
-asked : (t : ℕ) (c : Read t) (k : ℕ) → c .read .result ≡ k → Ready Class.statement (first c .args .s .now) (first c .args .at) (first c .args .depth) × (Checked (first c .args .s .now) × (kindOf (first c .args .s .now) (first c .args .at) ≡ k))
-asked t c k e = let p = first c .pre .1 .0 in (p .0, (p .1, kind t c k e))
+  -- what a function of one kind asks
+  abbrev Asked : At lts.After-read → ℕ → Type 0
+  Asked c k = let a = first c .args in Ready Class.statement (a .s .now) (a .at) (a .depth) × (Checked (a .s .now) × (kindOf (a .s .now) (a .at) ≡ k))
 
-room : (t : ℕ) (c : Read t) → Sound (first c .args .flow) × (first c .args .t5 .count ≤ 256)
-room t c = let p = first c .pre .1 .1 in (p .0, omega (arith, p .1, p .0 .locals))
+  asked : (c : At lts.After-read) (k : ℕ) → c .read .result ≡ k → Asked c k
+  asked c k e = let p = first c .pre .1 .0 in (p .0, (p .1, kind c k e))
 
--- the kind that is none of 10 to 19
-last : (t : ℕ) (c : Read t) → Last (c .read .result)
-last t c = subst (λ (x : ℕ). Last x) (sym (c .read .ensures .0)) (last-kind (first c .pre .1 .0 .0))
+  -- of a statement with no others inside, and of one with some
+  simple : (c : At lts.After-read) (k : ℕ) → c .read .result ≡ k → Asked c k × (Sound (first c .args .flow) × (first c .args .count ≤ 256))
+  simple c k e = let p = first c .pre .1 .1 in (asked c k e, (p .0, omega (arith, p .1, p .0 .locals)))
 
-pub add-read : (t : ℕ) → lower-stmt-lts.Need-add-read (R-lower-stmt t) (lower-stmt-at t) lower-stmt.Post
-add-read t c = let b = bounds (c .before .pre .1 .0 .0) in let k = c .before .pre .1 .0 .1 in omega (arith, b .low, b .high, k .short)
+  composed : (c : At lts.After-read) (k : ℕ) → c .read .result ≡ k → {own : Scopes} → (own .entries ≡ first c .args .entries .now) × (own .count ≡ first c .args .count)
+      → (4 * first c .args .depth + 0 < t) × (Asked c k × (Sound (first c .args .flow) × (own .count ≤ first c .args .flow .local)))
+  composed c k e h = let p = first c .pre in (omega (arith, p .0), (asked c k e, (p .1 .1 .0, omega (arith, h .1, p .1 .1 .1))))
 
-pub read-requires : (t : ℕ) → lower-stmt-lts.Need-read-requires (R-lower-stmt t) (lower-stmt-at t) lower-stmt.Post
-read-requires t c κs = let b = bounds (c .before .pre .1 .0 .0) in (omega (arith, b .low, b .high), omega arith)
+  -- the kind that is none of 10 to 19
+  last : (c : At lts.After-read) → Last (c .read .result)
+  last c = subst (λ (x : ℕ). Last x) (sym (c .read .ensures .0)) (last-kind (first c .pre .1 .0 .0))
 
-pub lower-let-requires : (t : ℕ) → lower-stmt-lts.Need-lower-let-requires (R-lower-stmt t) (lower-stmt-at t) lower-stmt.Post
-lower-let-requires t c κs = (asked t (c .before .before .before .before .before) 10 (c .before .before .before .before .match .keys1), room t (c .before .before .before .before .before))
+  add-read : At lts.Need-add-read
+  add-read c = let p = c .before .pre .1 .0 in let b = bounds (p .0) in omega (arith, b .low, b .high, p .1 .short)
 
-pub lower-constrain-requires : (t : ℕ) → lower-stmt-lts.Need-lower-constrain-requires (R-lower-stmt t) (lower-stmt-at t) lower-stmt.Post
-lower-constrain-requires t c κs = (asked t (c .before .before .before .before) 11 (c .before .before .before .match .keys2), room t (c .before .before .before .before))
+  read-requires : At lts.Need-read-requires
+  read-requires c κs = let b = bounds (c .before .pre .1 .0 .0) in (omega (arith, b .low, b .high), omega arith)
 
-pub lower-assign-requires : (t : ℕ) → lower-stmt-lts.Need-lower-assign-requires (R-lower-stmt t) (lower-stmt-at t) lower-stmt.Post
-lower-assign-requires t c κs = (asked t (c .before .before .before .before) 12 (c .before .before .before .match .keys3), room t (c .before .before .before .before))
+  lower-expr-stmt-requires : At lts.Need-lower-expr-stmt-requires
+  lower-expr-stmt-requires c κs =
+      let m = c .before in
+      let z = m .match .rest in
+      simple (m .before) 20 (last (m .before) (z .0 .0 .0 .0 .0 .0 .0 .0 .0 .1) (z .0 .0 .0 .0 .0 .0 .0 .0 .1) (z .0 .0 .0 .0 .0 .0 .0 .1) (z .0 .0 .0 .0 .0 .0 .1) (z .0 .0 .0 .0 .0 .1) (z .0 .0 .0 .0 .1) (z .0 .0 .0 .1) (z .0 .0 .1) (z .0 .1) (z .1))
 
-pub lower-storage-write-requires : (t : ℕ) → lower-stmt-lts.Need-lower-storage-write-requires (R-lower-stmt t) (lower-stmt-at t) lower-stmt.Post
-lower-storage-write-requires t c κs = (asked t (c .before .before .before .before) 13 (c .before .before .before .match .keys4), room t (c .before .before .before .before))
+  mapping : At lts.Need-returns-5
+  mapping c = (mapping-refused _ (mapping-at (first (c .before) .pre .1 .0 .0) (kind (c .before) 14 (c .match .keys5)) .is), tt)
 
-pub lower-if-requires : (t : ℕ) → lower-stmt-lts.Need-lower-if-requires (R-lower-stmt t) (lower-stmt-at t) lower-stmt.Post
-lower-if-requires t c κs =
-    let at-match = c .before .before .before .before in
-    let at-read = at-match .before in
-    let start = at-read .before .before in
-    (omega (arith, start .pre .0), (asked t at-read 15 (at-match .match .keys6), start .pre .1 .1))
-
-pub lower-while-requires : (t : ℕ) → lower-stmt-lts.Need-lower-while-requires (R-lower-stmt t) (lower-stmt-at t) lower-stmt.Post
-lower-while-requires t c κs =
-    let at-match = c .before .before .before .before in
-    let at-read = at-match .before in
-    let start = at-read .before .before in
-    (omega (arith, start .pre .0), (asked t at-read 16 (at-match .match .keys7), start .pre .1 .1))
-
-pub lower-for-requires : (t : ℕ) → lower-stmt-lts.Need-lower-for-requires (R-lower-stmt t) (lower-stmt-at t) lower-stmt.Post
-lower-for-requires t c κs =
-    let at-match = c .before .before .before .before in
-    let at-read = at-match .before in
-    let start = at-read .before .before in
-    (omega (arith, start .pre .0), (asked t at-read 17 (at-match .match .keys8), start .pre .1 .1))
-
-pub lower-return-requires : (t : ℕ) → lower-stmt-lts.Need-lower-return-requires (R-lower-stmt t) (lower-stmt-at t) lower-stmt.Post
-lower-return-requires t c κs = (asked t (c .before .before .before .before .before) 18 (c .before .before .before .before .match .keys9), room t (c .before .before .before .before .before))
-
-pub lower-emit-requires : (t : ℕ) → lower-stmt-lts.Need-lower-emit-requires (R-lower-stmt t) (lower-stmt-at t) lower-stmt.Post
-lower-emit-requires t c κs = (asked t (c .before .before .before .before) 19 (c .before .before .before .match .keys10), room t (c .before .before .before .before))
-
-pub lower-expr-stmt-requires : (t : ℕ) → lower-stmt-lts.Need-lower-expr-stmt-requires (R-lower-stmt t) (lower-stmt-at t) lower-stmt.Post
-lower-expr-stmt-requires t c κs =
-    let at-match = c .before .before .before in
-    let at-read = at-match .before in
-    let z = at-match .match .rest in
-    (asked t at-read 20 (last t at-read (z .0 .0 .0 .0 .0 .0 .0 .0 .0 .1) (z .0 .0 .0 .0 .0 .0 .0 .0 .1) (z .0 .0 .0 .0 .0 .0 .0 .1) (z .0 .0 .0 .0 .0 .0 .1) (z .0 .0 .0 .0 .0 .1) (z .0 .0 .0 .0 .1) (z .0 .0 .0 .1) (z .0 .0 .1) (z .0 .1) (z .1)), room t at-read)
-
-pub returns : (t : ℕ) → lower-stmt-lts.Need-returns (R-lower-stmt t) (lower-stmt-at t) lower-stmt.Post
-returns t c = (c .lower-let .ensures .0 _ _, c .lower-let .ensures .1)
-
-pub returns-2 : (t : ℕ) → lower-stmt-lts.Need-returns-2 (R-lower-stmt t) (lower-stmt-at t) lower-stmt.Post
-returns-2 t c = (c .lower-constrain .ensures .0 _ _ _ _, c .lower-constrain .ensures .1)
-
-pub returns-3 : (t : ℕ) → lower-stmt-lts.Need-returns-3 (R-lower-stmt t) (lower-stmt-at t) lower-stmt.Post
-returns-3 t c = (c .lower-assign .ensures .0 _ _ _ _, c .lower-assign .ensures .1)
-
-pub returns-4 : (t : ℕ) → lower-stmt-lts.Need-returns-4 (R-lower-stmt t) (lower-stmt-at t) lower-stmt.Post
-returns-4 t c = (c .lower-storage-write .ensures .0 _ _ _ _, c .lower-storage-write .ensures .1)
-
-pub returns-5 : (t : ℕ) → lower-stmt-lts.Need-returns-5 (R-lower-stmt t) (lower-stmt-at t) lower-stmt.Post
-returns-5 t c = (sym (mapping-refused _ _ _ (mapping-at (c .before .before .before .pre .1 .0 .0) (kind t (c .before) 14 (c .match .keys5)) .is)), tt)
-
-pub returns-6 : (t : ℕ) → lower-stmt-lts.Need-returns-6 (R-lower-stmt t) (lower-stmt-at t) lower-stmt.Post
-returns-6 t c = c .lower-if .ensures
-
-pub returns-7 : (t : ℕ) → lower-stmt-lts.Need-returns-7 (R-lower-stmt t) (lower-stmt-at t) lower-stmt.Post
-returns-7 t c = c .lower-while .ensures
-
-pub returns-8 : (t : ℕ) → lower-stmt-lts.Need-returns-8 (R-lower-stmt t) (lower-stmt-at t) lower-stmt.Post
-returns-8 t c = c .lower-for .ensures
-
-pub returns-9 : (t : ℕ) → lower-stmt-lts.Need-returns-9 (R-lower-stmt t) (lower-stmt-at t) lower-stmt.Post
-returns-9 t c = (c .lower-return .ensures .0 _ _ _, c .lower-return .ensures .1)
-
-pub returns-10 : (t : ℕ) → lower-stmt-lts.Need-returns-10 (R-lower-stmt t) (lower-stmt-at t) lower-stmt.Post
-returns-10 t c = (c .lower-emit .ensures .0 _ _ _ _, c .lower-emit .ensures .1)
-
-pub returns-11 : (t : ℕ) → lower-stmt-lts.Need-returns-11 (R-lower-stmt t) (lower-stmt-at t) lower-stmt.Post
-returns-11 t c = (c .lower-expr-stmt .ensures .0 _ _ _ _, c .lower-expr-stmt .ensures .1)
+  -- the calls in the order of the kinds, then what each answers
+  pub stmt-met : {M : Type 1} → lts.Closed (R-lower-stmt t) (lower-stmt-at t) lower-stmt.Post M
+  stmt-met =
+      lts.spec (R-lower-stmt t) (lower-stmt-at t) lower-stmt.Post add-read read-requires
+      (λ c κs. simple (c .before .before .before) 10 (c .before .before .match .keys1))
+      (λ c κs. simple (c .before .before) 11 (c .before .match .keys2))
+      (λ c κs. simple (c .before .before) 12 (c .before .match .keys3))
+      (λ c κs. simple (c .before .before) 13 (c .before .match .keys4))
+      (λ c κs. search needs)
+      (λ c κs. composed (c .before .before .before .before .before .before) 15 (c .before .before .before .before .before .match .keys6) (c .before .before .before .before .copied .ensures))
+      (λ c κs. search needs)
+      (λ c κs. composed (c .before .before .before .before .before .before) 16 (c .before .before .before .before .before .match .keys7) (c .before .before .before .before .copied2 .ensures))
+      (λ c κs. search needs)
+      (λ c κs. composed (c .before .before .before .before .before .before) 17 (c .before .before .before .before .before .match .keys8) (c .before .before .before .before .copied3 .ensures))
+      (λ c κs. simple (c .before .before .before) 18 (c .before .before .match .keys9))
+      (λ c κs. simple (c .before .before) 19 (c .before .match .keys10))
+      lower-expr-stmt-requires
+      (λ c. (c .lower-let .ensures .0 _ _, c .lower-let .ensures .1))
+      (λ c. (c .lower-constrain .ensures .0 _ _ _ _, c .lower-constrain .ensures .1))
+      (λ c. (c .lower-assign .ensures .0 _ _ _ _, c .lower-assign .ensures .1))
+      (λ c. (c .lower-storage-write .ensures .0 _ _ _ _, c .lower-storage-write .ensures .1))
+      mapping
+      (λ c. rw (c .before .before .before .before .before .copied .ensures .0, c .before .before .before .before .before .copied .ensures .1) at (c .lower-if .ensures))
+      (λ c. rw (c .before .before .before .before .before .copied2 .ensures .0, c .before .before .before .before .before .copied2 .ensures .1) at (c .lower-while .ensures))
+      (λ c. rw (c .before .before .before .before .before .copied3 .ensures .0, c .before .before .before .before .before .copied3 .ensures .1) at (c .lower-for .ensures))
+      (λ c. (c .lower-return .ensures .0 _ _ _, c .lower-return .ensures .1))
+      (λ c. (c .lower-emit .ensures .0 _ _ _ _, c .lower-emit .ensures .1))
+      (λ c. (c .lower-expr-stmt .ensures .0 _ _ _ _, c .lower-expr-stmt .ensures .1))

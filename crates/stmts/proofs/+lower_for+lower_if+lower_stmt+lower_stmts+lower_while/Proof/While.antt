@@ -1,157 +1,146 @@
 -- What `lower_while` leaves: the places of its parts, and the three ways out. Assumes nothing.
-use mathlib.Core.Path.{sym}
 use Prim.Native.Nat.{ℕ, _+_}
 use native.Mathlib.Omega.{arith}
+use borrow.Fn.Kinds.{In, Out}
 use borrow.Author.Needs.{needs}
-use Rattle.nodes.proofs.Children.{bounds}
+use Rattle.nodes.specs.Ready.{stmtsFrom}
+use Rattle.nodes.proofs.Children.{bounds, size-fits}
 use Rattle.nodes.proofs.Stmts.{while-at}
+use Rattle.walk.specs.Stmts.{Ctx}
+use Rattle.flow.specs.Flows.{ctxIn}
 use Rattle.stmts.proofs.StmtParts.{stop-is, WhileParts, while-parts}
-use Rattle.stmts.proofs.StmtSteps.{made-is, step-is, grown, blocks-made, step-grown, while-refused, while-refused-body, while-done}
+use Rattle.stmts.proofs.StmtSteps.{Begun, whileBody, whileEnd, while-opens, Inside, entered, walked, may-switch, leaves, not-made, not-walked, asked-inside}
 use Rattle.stmts.proofs.+lower_for+lower_if+lower_stmt+lower_stmts+lower_while.Proof.Base.{lower-while-at, R-lower-while}
-use Rattle.stmts.proofs.+lower_for+lower_if+lower_stmt+lower_stmts+lower_while.Lts-lower_while as lower-while-lts
+use Rattle.stmts.proofs.+lower_for+lower_if+lower_stmt+lower_stmts+lower_while.Lts-lower_while as lts
 use Rattle.stmts.proofs.lower_while.Reads as lower-while
 
-abbrev Read2 : ℕ → Type 0
-Read2 t = lower-while-lts.After-read2 (R-lower-while t) (lower-while-at t) lower-while.Post
+module _ (t : ℕ) where
+  -- a place or a need of `lower_while` at the measure t
+  abbrev At : (lts.Claims → In 5 lts.ps → Out 5 lts.ps lts.r → Type 0) → Type 0
+  At X = X (R-lower-while t) (lower-while-at t) lower-while.Post
 
-abbrev first : {t : ℕ} → Read2 t → lower-while-lts.Start (R-lower-while t) (lower-while-at t) lower-while.Post
-first c = c .before .before .before
+  -- ITS PARTS, from the places that were read
+  abbrev start : At lts.After-read2 → At lts.Start
+  start c = c .before .before .before
 
--- where the While stops, and where its block is
-abbrev stop : {t : ℕ} → Read2 t → ℕ
-stop c = first c .args .at + c .before .read .result
+  abbrev begun : At lts.After-read2 → Begun
+  begun c =
+      let a = start c .args in
+      record { sheet = a .s .now; at = a .at; function = a .function .0; scopes = a .t5; flow = a .flow; log = a .log .now; types = a .types .now; starts = a .starts .now; stops = a .stops .now }
 
-abbrev block : {t : ℕ} → Read2 t → ℕ
-block c = first c .args .at + 6 + c .read2 .result
+  abbrev stop : At lts.After-read2 → ℕ
+  stop c = start c .args .at + c .before .read .result
 
--- the places that were read are those of the While's parts
-parts : (t : ℕ) (c : Read2 t) → WhileParts (first c .args .s .now) (first c .args .at) (block c) (stop c) (first c .args .depth)
-parts t c =
-    let a = first c .args in
-    let p = first c .pre .1 .0 in
-    while-parts (p .0) (p .1 .1) (stop-is (a .s .now) (a .at + 6) (c .read2 .ensures .0)) (stop-is (a .s .now) (a .at) (c .before .read .ensures .0))
+  abbrev block : At lts.After-read2 → ℕ
+  block c = start c .args .at + 6 + c .read2 .result
 
-pub read-requires : (t : ℕ) → lower-while-lts.Need-read-requires (R-lower-while t) (lower-while-at t) lower-while.Post
-read-requires t c κs = let b = bounds (c .before .pre .1 .0 .0) in (omega (arith, b .low, b .high), omega arith)
+  parts : (c : At lts.After-read2) → WhileParts (begun c .sheet) (begun c .at) (block c) (stop c) (start c .args .depth)
+  parts c =
+      let a = start c .args in
+      let p = start c .pre .1 .0 in
+      while-parts (p .0) (p .1 .1) (stop-is (a .s .now) (a .at + 6) (c .read2 .ensures .0)) (stop-is (a .s .now) (a .at) (c .before .read .ensures .0))
 
-pub add-stop : (t : ℕ) → lower-while-lts.Need-add-stop (R-lower-while t) (lower-while-at t) lower-while.Post
-add-stop t c = let b = bounds (c .before .before .pre .1 .0 .0) in let k = c .before .before .pre .1 .0 .1 .0 in omega (arith, b .high, c .read .ensures .0, k .short)
+  -- AFTER ITS HEADER
+  abbrev read-of : At lts.After-made → At lts.After-read2
+  read-of c = c .before .before .before .before .before .before .before .before
 
-pub add-body-at : (t : ℕ) → lower-while-lts.Need-add-body-at (R-lower-while t) (lower-while-at t) lower-while.Post
-add-body-at t c = let b = bounds (c .before .before .pre .1 .0 .0) in let k = c .before .before .pre .1 .0 .1 .0 in omega (arith, b .low, b .high, k .short)
+  abbrev made-ctx : At lts.After-made → Ctx
+  made-ctx c =
+      let B = begun (read-of c) in
+      let w = c .before .before .enter-while .last .1 .1 .1 .1 .1 .1 .1 in
+      ctxIn (B .function) (w .0) (B .types) (w .1 .0) (w .1 .1 .0) (c .made .given .0 .0)
 
-pub add-read : (t : ℕ) → lower-while-lts.Need-add-read (R-lower-while t) (lower-while-at t) lower-while.Post
-add-read t c = let b = bounds (c .before .before .pre .1 .0 .0) in let k = c .before .before .pre .1 .0 .1 .0 in omega (arith, b .low, b .high, k .short)
+  abbrev first : At lts.After-made → ℕ
+  first c = c .made .given .0 .1 .0
 
-pub read-requires-2 : (t : ℕ) → lower-while-lts.Need-read-requires-2 (R-lower-while t) (lower-while-at t) lower-while.Post
-read-requires-2 t c κs = let b = bounds (while-at (c .before .before .pre .1 .0 .0) (c .before .before .pre .1 .0 .1 .1) .cond) in (omega (arith, b .low, b .high), omega arith)
+  header : (c : At lts.After-made) → let p = read-of c in Inside (begun p) (first c) (c .made .given .0 .0) (whileBody (begun p) (stmtsFrom (begun p .sheet) (block p + 6) (stop p)) (made-ctx c, first c))
+  header c =
+      let p = read-of c in
+      let m = c .before .before .enter-while in
+      entered _ _ _ _ _ _ (while-opens (begun p) (parts p .is)) (c .made .given .1) (m .ensures .0 (begun p .types)) (m .ensures .1)
 
-pub add-body-at-2 : (t : ℕ) → lower-while-lts.Need-add-body-at-2 (R-lower-while t) (lower-while-at t) lower-while.Post
-add-body-at-2 t c =
-    let start = c .before .before .before in
-    let b = bounds (while-at (start .pre .1 .0 .0) (start .pre .1 .0 .1 .1) .cond) in
-    let k = start .pre .1 .0 .1 .0 in
-    omega (arith, b .high, c .read2 .ensures .0, k .short)
+  -- AFTER ITS BODY
+  abbrev made-of : At lts.After-lower-stmts → At lts.After-made
+  made-of c = c .before .before .before .before .before .before
 
-pub add-enter-while : (t : ℕ) → lower-while-lts.Need-add-enter-while (R-lower-while t) (lower-while-at t) lower-while.Post
-add-enter-while t c = let b = bounds (c .before .before .before .pre .1 .0 .0) in let k = c .before .before .before .pre .1 .0 .1 .0 in omega (arith, b .low, b .high, k .short)
+  abbrev body-ctx : At lts.After-body → Ctx
+  body-ctx c =
+      let w = c .before .before .lower-stmts .last .1 .1 .1 .1 .1 .1 .1 in
+      ctxIn (begun (read-of (made-of (c .before .before))) .function) (w .0) (w .1 .0) (w .1 .1 .0) (w .1 .1 .1 .0) (c .body .given .0 .0)
 
-pub sub-enter-while : (t : ℕ) → lower-while-lts.Need-sub-enter-while (R-lower-while t) (lower-while-at t) lower-while.Post
-sub-enter-while t c = let b = bounds (c .before .before .before .pre .1 .0 .0) in omega (arith, b .deep)
+  body : (c : At lts.After-body) → let m = made-of (c .before .before) in Inside (begun (read-of m)) (first m) (c .body .given .0 .0) (whileEnd (begun (read-of m)) (first m) (body-ctx c))
+  body c =
+      let b = c .before .before .lower-stmts in
+      walked _ _ _ _ _ _ (header (made-of (c .before .before))) (c .body .given .1) (b .ensures .0) (b .ensures .1)
 
-pub enter-while-requires : (t : ℕ) → lower-while-lts.Need-enter-while-requires (R-lower-while t) (lower-while-at t) lower-while.Post
-enter-while-requires t c κs =
-    let at-read2 = c .before .before .before .before .before in
-    let start = at-read2 .before .before .before in
-    let g = parts t at-read2 in
-    let k = start .pre .1 .0 .1 .0 in
-    let p = start .pre .1 in
-    (g .cond, (k, (p .1 .0, omega (arith, p .1 .1, p .1 .0 .locals))))
+  -- ITS NEEDS
+  read-requires : At lts.Need-read-requires
+  read-requires c κs = size-fits (c .before .pre .1 .0 .0)
 
-pub enum-known-made : (t : ℕ) → lower-while-lts.Need-enum-known-made (R-lower-while t) (lower-while-at t) lower-while.Post
-enum-known-made t c = search needs
+  add-stop : At lts.Need-add-stop
+  add-stop c = let p = c .before .before .pre .1 .0 in omega (arith, bounds (p .0) .high, c .read .ensures .0, p .1 .0 .short)
 
-pub add-lower-stmts : (t : ℕ) → lower-while-lts.Need-add-lower-stmts (R-lower-while t) (lower-while-at t) lower-while.Post
-add-lower-stmts t c =
-    let at-read2 = c .before .before .before .before .before .before .before .before .before in
-    let start = at-read2 .before .before .before in
-    let g = parts t at-read2 in
-    let k = start .pre .1 .0 .1 .0 in
-    omega (arith, g .low, g .inside, k .short)
+  add-body-at : At lts.Need-add-body-at
+  add-body-at c = let p = c .before .before .pre .1 .0 in let b = bounds (p .0) in omega (arith, b .low, b .high, p .1 .0 .short)
 
-pub sub-lower-stmts : (t : ℕ) → lower-while-lts.Need-sub-lower-stmts (R-lower-while t) (lower-while-at t) lower-while.Post
-sub-lower-stmts t c = let g = parts t (c .before .before .before .before .before .before .before .before .before) in omega (arith, g .deep)
+  add-read : At lts.Need-add-read
+  add-read c = let p = c .before .before .pre .1 .0 in let b = bounds (p .0) in omega (arith, b .low, b .high, p .1 .0 .short)
 
-pub lower-stmts-requires : (t : ℕ) → lower-while-lts.Need-lower-stmts-requires (R-lower-while t) (lower-while-at t) lower-while.Post
-lower-stmts-requires t c κs =
-    let at-made = c .before .before .before .before .before in
-    let at-enter-while = at-made .before .before in
-    let at-read2 = at-enter-while .before .before .before .before .before .before in
-    let start = at-read2 .before .before .before in
-    let g = parts t at-read2 in
-    let k = start .pre .1 .0 .1 .0 in
-    let m = blocks-made (at-made .made .given .1) (at-enter-while .enter-while .ensures .1) in
-    let p = start .pre .1 in
-    (omega (arith, g .deep, start .pre .0), ((g .body, k), (m .0 .sound, omega (arith, m .0 .locals, p .1 .1))))
+  read-requires-2 : At lts.Need-read-requires-2
+  read-requires-2 c κs = let p = c .before .before .pre .1 .0 in size-fits (while-at (p .0) (p .1 .1) .cond)
 
-pub enum-known-body : (t : ℕ) → lower-while-lts.Need-enum-known-body (R-lower-while t) (lower-while-at t) lower-while.Post
-enum-known-body t c = search needs
+  add-body-at-2 : At lts.Need-add-body-at-2
+  add-body-at-2 c = omega (arith, bounds (parts c .cond) .high, c .read2 .ensures .0, start c .pre .1 .0 .1 .0 .short)
 
-pub add-next-arm : (t : ℕ) → lower-while-lts.Need-add-next-arm (R-lower-while t) (lower-while-at t) lower-while.Post
-add-next-arm t c =
-    let at-made = c .before .before .before .before .before .before .before .before .before in
-    let at-enter-while = at-made .before .before in
-    let m = blocks-made (at-made .made .given .1) (at-enter-while .enter-while .ensures .1) in
-    omega (arith, m .1, m .0 .sound .blocks)
+  add-enter-while : At lts.Need-add-enter-while
+  add-enter-while c = omega (arith, parts c .low, parts c .inside, start c .pre .1 .0 .1 .0 .short)
 
-pub next-arm-requires : (t : ℕ) → lower-while-lts.Need-next-arm-requires (R-lower-while t) (lower-while-at t) lower-while.Post
-next-arm-requires t c κs =
-    let at-body = c .before .before .before .before in
-    let at-lower-stmts = at-body .before .before in
-    let at-made = at-lower-stmts .before .before .before .before .before .before in
-    let at-enter-while = at-made .before .before in
-    let m = blocks-made (at-made .made .given .1) (at-enter-while .enter-while .ensures .1) in
-    let n = step-grown (at-body .body .given .1) (at-lower-stmts .lower-stmts .ensures .1) in
-    (n .sound, (omega (arith, m .1, m .0 .sound .blocks), omega (arith, m .1, n .blocks)))
+  sub-enter-while : At lts.Need-sub-enter-while
+  sub-enter-while c = omega (arith, parts c .deep)
 
-pub enum-known-body-2 : (t : ℕ) → lower-while-lts.Need-enum-known-body-2 (R-lower-while t) (lower-while-at t) lower-while.Post
-enum-known-body-2 t c = search needs
+  enter-while-requires : At lts.Need-enter-while-requires
+  enter-while-requires c κs =
+      let r = c .before .before .before .before .before in
+      let p = start r .pre .1 in
+      (parts r .cond, (p .0 .1 .0, (p .1 .0, omega (arith, p .1 .1, p .1 .0 .locals))))
 
-pub enum-known-made-2 : (t : ℕ) → lower-while-lts.Need-enum-known-made-2 (R-lower-while t) (lower-while-at t) lower-while.Post
-enum-known-made-2 t c = search needs
+  add-lower-stmts : At lts.Need-add-lower-stmts
+  add-lower-stmts c = let r = read-of (c .before) in omega (arith, parts r .low, parts r .inside, start r .pre .1 .0 .1 .0 .short)
 
-pub returns : (t : ℕ) → lower-while-lts.Need-returns (R-lower-while t) (lower-while-at t) lower-while.Post
-returns t c =
-    let at-body = c .before .before .before .before .before in
-    let at-lower-stmts = at-body .before .before in
-    let at-made = at-lower-stmts .before .before .before .before .before .before in
-    let at-enter-while = at-made .before .before in
-    let at-read2 = at-enter-while .before .before .before .before .before .before in
-    let start = at-read2 .before .before .before in
-    let g = parts t at-read2 in
-    let m = blocks-made (at-made .made .given .1) (at-enter-while .enter-while .ensures .1) in
-    let n = step-grown (at-body .body .given .1) (at-lower-stmts .lower-stmts .ensures .1) in
-    let enter = made-is _ _ _ _ _ (at-made .made .given .1) (at-enter-while .enter-while .ensures .0 (start .args .types .now)) in
-    let body = step-is _ _ _ _ _ (at-body .body .given .1) (at-lower-stmts .lower-stmts .ensures .0) in
-    (sym (while-done _ _ _ (g .is) enter body (c .next-arm .ensures .0 _ _)), grown (m .0) (grown n (c .next-arm .ensures .1 .0)))
+  sub-lower-stmts : At lts.Need-sub-lower-stmts
+  sub-lower-stmts c = omega (arith, parts (read-of (c .before)) .deep)
 
-pub returns-2 : (t : ℕ) → lower-while-lts.Need-returns-2 (R-lower-while t) (lower-while-at t) lower-while.Post
-returns-2 t c =
-    let at-body2 = c .before in
-    let at-lower-stmts = at-body2 .before .before in
-    let at-made = at-lower-stmts .before .before .before .before .before .before in
-    let at-enter-while = at-made .before .before in
-    let at-read2 = at-enter-while .before .before .before .before .before .before in
-    let start = at-read2 .before .before .before in
-    let g = parts t at-read2 in
-    let enter = made-is _ _ _ _ _ (at-made .made .given .1) (at-enter-while .enter-while .ensures .0 (start .args .types .now)) in
-    (sym (while-refused-body _ _ _ (g .is) enter (step-is _ _ _ _ _ (at-body2 .body2 .given .1) (at-lower-stmts .lower-stmts .ensures .0))), tt)
+  lower-stmts-requires : At lts.Need-lower-stmts-requires
+  lower-stmts-requires c κs =
+      let m = c .before .before .before .before .before in
+      let g = parts (read-of m) in
+      let p = start (read-of m) .pre in
+      let h = header m .grown in
+      asked-inside (p .0) (g .deep) (g .body) (p .1 .0 .1 .0) (h .sound) (omega (arith, h .locals, p .1 .1 .1))
 
-pub returns-3 : (t : ℕ) → lower-while-lts.Need-returns-3 (R-lower-while t) (lower-while-at t) lower-while.Post
-returns-3 t c =
-    let at-made2 = c .before in
-    let at-enter-while = at-made2 .before .before in
-    let at-read2 = at-enter-while .before .before .before .before .before .before in
-    let start = at-read2 .before .before .before in
-    let g = parts t at-read2 in
-    (sym (while-refused _ _ _ (g .is) (made-is _ _ _ _ _ (at-made2 .made2 .given .1) (at-enter-while .enter-while .ensures .0 (start .args .types .now)))), tt)
+  add-next-arm : At lts.Need-add-next-arm
+  add-next-arm c = omega (arith, body (c .before) .small)
+
+  next-arm-requires : At lts.Need-next-arm-requires
+  next-arm-requires c κs = may-switch (body (c .before .before .before .before)) (omega arith) (omega arith)
+
+  returns : At lts.Need-returns
+  returns c = leaves (body (c .before .before .before .before .before)) (c .next-arm .ensures .0 _ _) (c .next-arm .ensures .1 .0)
+
+  returns-2 : At lts.Need-returns-2
+  returns-2 c =
+      let b = c .before .before .before in
+      (not-walked _ _ _ _ _ _ (header (made-of b) .is) (c .before .body2 .given .1) (b .lower-stmts .ensures .0), tt)
+
+  returns-3 : At lts.Need-returns-3
+  returns-3 c =
+      let m = c .before .before .before in
+      let p = m .before .before .before .before .before .before in
+      (not-made _ _ _ _ _ _ (while-opens (begun p) (parts p .is)) (c .before .made2 .given .1) (m .enter-while .ensures .0 (begun p .types)), tt)
+
+  pub while-met : {M : Type 1} → lts.Closed (R-lower-while t) (lower-while-at t) lower-while.Post M
+  while-met =
+      lts.spec (R-lower-while t) (lower-while-at t) lower-while.Post
+      read-requires add-stop add-body-at add-read read-requires-2 add-body-at-2 add-enter-while sub-enter-while
+      enter-while-requires (λ c. search needs) add-lower-stmts sub-lower-stmts lower-stmts-requires (λ c. search needs)
+      add-next-arm next-arm-requires (λ c. search needs) (λ c. search needs) returns returns-2 returns-3

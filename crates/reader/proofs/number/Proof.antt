@@ -1,11 +1,11 @@
--- `fields::read`: the bytes from the i-th on are summed up. Assumes nothing.
+-- `reader::number`: the bytes from the i-th on are summed up. Assumes nothing.
 use mathlib.Core.Path.{_≡_, refl, sym, ap, _∙_, subst}
 use Prim.Native.Nat.{ℕ, _+_, _-_, _*_, _≤_, _<_}
 use native.Mathlib.Omega.{arith}
 use borrow.Author.Needs.{needs}
-use Rattle.fields.proofs.Reading.{Held, none, more, all, fits, fits-more}
-use Rattle.fields.proofs.read.Statement.{statement}
-use Rattle.fields.proofs.read.Tie as tie
+use Rattle.reader.proofs.Reading.{Held, none, more, all, fits, fits-more}
+use Rattle.reader.proofs.number.Statement.{statement}
+use Rattle.reader.proofs.number.Tie as tie
 
 abbrev Inv-loop : tie.InvT-loop
 Inv-loop s at n i₀ sum₀ i sum = Held n s at i sum
@@ -43,8 +43,8 @@ loop-again c = more (c .before .before .before .loop .inv) (c .before .before .l
 returns : tie.Need-returns Inv-loop μ-loop
 returns c = let z : c .before .loop .i ≡ 0 = omega arith in all (subst (λ (k : ℕ). Held (c .before .before .before .args .n) (c .before .before .before .args .s .now) (c .before .before .before .args .at) k (c .before .loop .sum)) z (c .before .loop .inv))
 
-pub read-spec : {M : Type 1} → statement M
-read-spec =
+pub number-spec : {M : Type 1} → statement M
+number-spec =
     tie.close
     (tie.spec
     Inv-loop

@@ -1,4 +1,4 @@
--- `fields::all_bytes`: the elements before i are below 256; those behind the end are 0. Assumes nothing.
+-- `reader::all_bytes`: the elements before i are below 256; those behind the end are 0. Assumes nothing.
 use mathlib.Core.Path.{_≡_, refl, subst}
 use mathlib.Core.Bool.{Bool, true, false}
 use mathlib.Core.List.{List}
@@ -9,8 +9,8 @@ use borrow.Author.Tests.{leb-true, leb-false}
 use lib.Dec.{leb}
 use lib.ListN.{length, getD, List·getD-eq-default}
 use Rattle.definitions.specs.Fields.{Bytes}
-use Rattle.fields.proofs.all_bytes.Statement.{statement}
-use Rattle.fields.proofs.all_bytes.Tie as tie
+use Rattle.reader.proofs.all_bytes.Statement.{statement}
+use Rattle.reader.proofs.all_bytes.Tie as tie
 
 abbrev Below : List ℕ → ℕ → Type 0
 Below s n = (k : ℕ) → k < n → getD s k 0 < 256

@@ -1,0 +1,66 @@
+# What a buyer links: the archive by include/malovuneth.h, with the C example, and the Rust bindings. Sourced by the test command, which has
+# `pass` and `fail`. Without a C compiler, or without cargo, its part is left out. The archive is made once, of what was just proved:
+# differential/archive.sh tells it by ARCHIVE to the differential run too.
+unset ARCHIVE
+built=target/buyers
+mkdir -p "$built"
+have() { command -v "$1" >/dev/null 2>&1; }
+
+# build OUTPUT COMPILER WORDS..: the command compiles and links without a warning.
+build() {
+  local output=$1
+  shift
+  if "$@" -Wall -Wextra -Wpedantic -Werror -Iinclude -o "$output" >"$output.log" 2>&1; then pass
+  else fail "$* does not compile: see $output.log"; return 1
+  fi
+}
+
+# example STATUS EXPECTED [FILE]: the C example ends with this status and prints this.
+example() {
+  local status=$1 expected=$2 printed given
+  shift 2
+  printed=$("$built/lower_and_verify" "$@" 2>"$built/example.log")
+  given=$?
+  if [ "$given" = "$status" ] && [ "$printed" = "$expected" ]; then pass
+  else fail "lower_and_verify $*: status $given, $printed"
+  fi
+}
+
+examples_in_c() {
+  local answers sheet status
+  for answers in examples/*.answers; do
+    sheet=${answers%.answers}.sheet status=0
+    ! grep -q ': refused' "$answers" || status=1
+    example "$status" "$(cat "$answers")" "$sheet"
+    example "$status" "$(cat "$answers")" <"$sheet"
+  done
+  local none='verifying: not asked, there is no program'
+  example 1 "$(printf 'lowering: refused, 3 (no fitting record; place): 0\n%s' "$none")" < <(head -c 32768 /dev/zero)
+  example 1 "$(printf 'lowering: refused, 1 (sheet over 32,768 bytes)\n%s' "$none")" < <(head -c 32769 /dev/zero)
+  example 1 "$(printf 'lowering: refused, 1 (sheet over 32,768 bytes)\n%s' "$none")" < <(head -c 1000000 /dev/zero)
+  example 2 '' examples/there-is-none.sheet
+  example 2 '' examples
+}
+
+# header COMPILER WORDS..: what the header says, tried by a program of this compiler.
+header() {
+  build "$built/header" "$@" tests/header.c -x none "$ARCHIVE/libmalovuneth.a" || return
+  if "$built/header" >"$built/header.log" 2>&1; then pass; else fail "tests/header.c, by $*: see $built/header.log"; fi
+}
+
+if have cc || have c++ || have cargo; then
+  if . differential/archive.sh; then pass; else fail "the archive cannot be made: see target/staticlib.log"; fi
+fi
+if [ -n "${ARCHIVE:-}" ]; then
+  if have cc; then
+    header cc -std=c99 -x c
+    ! build "$built/lower_and_verify" cc -std=c99 examples/lower_and_verify.c "$ARCHIVE/libmalovuneth.a" || examples_in_c
+  fi
+  if have c++; then header c++ -std=c++11 -x c++; fi
+  if have cargo; then
+    if MALOVUNETH_LIB_DIR=$ARCHIVE CARGO_TARGET_DIR=$PWD/$built/rust \
+      cargo test --offline --locked --quiet --manifest-path bindings/rust/Cargo.toml >"$built/rust.log" 2>&1; then pass
+    else fail "the Rust bindings' tests: see $built/rust.log"
+    fi
+  fi
+fi
