@@ -1,5 +1,5 @@
 /* malovuneth.h: lowering contract sheets to program sheets, and verifying
- * program sheets. C99, or C++. Version 0.1.0.
+ * program sheets. C99, or C++. Version 0.2.0.
  *
  * Link with libmalovuneth.a, an archive for x86-64 Linux that
  * `rt staticlib malovuneth` writes to target/staticlib. Of other libraries it
@@ -21,6 +21,9 @@
  *   malovuneth_verify less than 1 kB (docs/FIGURES.md; measured).
  *
  * Where a length is 0, the pointer before it is not used, and may be NULL.
+ *
+ * docs/FORMAT.md of the project has both sheets record by record, what lowering
+ * writes, what verifying asks, and an example of each number.
  */
 #ifndef MALOVUNETH_H
 #define MALOVUNETH_H
@@ -29,9 +32,9 @@
 #include <stdint.h>
 
 #define MALOVUNETH_VERSION_MAJOR 0
-#define MALOVUNETH_VERSION_MINOR 1
+#define MALOVUNETH_VERSION_MINOR 2
 #define MALOVUNETH_VERSION_PATCH 0
-#define MALOVUNETH_VERSION "0.1.0"
+#define MALOVUNETH_VERSION "0.2.0"
 
 /* The most bytes of a sheet of either kind. An output of so many bytes holds
  * every program sheet; it may be longer or shorter. */
@@ -40,11 +43,11 @@
 /* How many numbers an answer has: its own, and five for its details. */
 #define MALOVUNETH_NUMBERS 6
 
-/* The first number of an answer. Behind each is said what it is given for, in
- * the words of document 01, and after the semicolon which details follow it, in
- * their order. All numbers behind the details are 0. A place is a byte of the
- * sheet, from 0. A type is two numbers: its tag, and its name, which is 0 unless
- * the tag is MALOVUNETH_TYPE_STRUCT. */
+/* The first number of an answer. Before each is said what it is given for, and
+ * after the semicolon which details follow it, in their order. All numbers
+ * behind the details are 0. A place is a byte of the sheet, from 0. A type is
+ * two numbers: its tag, and its name, which is 0 unless the tag is
+ * MALOVUNETH_TYPE_STRUCT. */
 enum malovuneth_answer {
   /* accepted; of lowering: the length of the program sheet */
   MALOVUNETH_ACCEPTED = 0,

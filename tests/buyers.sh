@@ -1,10 +1,10 @@
-# What a buyer links: the archive by include/malovuneth.h, with the C example, and the Rust bindings. Sourced by the test command, which has
-# `pass` and `fail`. Without a C compiler, or without cargo, its part is left out. The archive is made once, of what was just proved:
-# differential/archive.sh tells it by ARCHIVE to the differential run too.
-unset ARCHIVE
+#!/usr/bin/env bash
+# What a buyer links: the archive by include/malovuneth.h, with the C example, and the Rust bindings.
+set -u
+cd "$(dirname "$0")/.." && . tests/part.sh || exit 2
+on_x86_64 'the C example and the bindings' || finish
 built=target/buyers
 mkdir -p "$built"
-have() { command -v "$1" >/dev/null 2>&1; }
 
 # build OUTPUT COMPILER WORDS..: the command compiles and links without a warning.
 build() {
@@ -48,19 +48,17 @@ header() {
   if "$built/header" >"$built/header.log" 2>&1; then pass; else fail "tests/header.c, by $*: see $built/header.log"; fi
 }
 
-if have cc || have c++ || have cargo; then
-  if . differential/archive.sh; then pass; else fail "the archive cannot be made: see target/staticlib.log"; fi
+. differential/archive.sh || { fail "the archive cannot be made: see target/staticlib.log"; finish; }
+if with 'the header and the example in C' cc; then
+  header cc -std=c99 -x c
+  ! build "$built/lower_and_verify" cc -std=c99 examples/lower_and_verify.c "$ARCHIVE/libmalovuneth.a" || examples_in_c
 fi
-if [ -n "${ARCHIVE:-}" ]; then
-  if have cc; then
-    header cc -std=c99 -x c
-    ! build "$built/lower_and_verify" cc -std=c99 examples/lower_and_verify.c "$ARCHIVE/libmalovuneth.a" || examples_in_c
-  fi
-  if have c++; then header c++ -std=c++11 -x c++; fi
-  if have cargo; then
-    if MALOVUNETH_LIB_DIR=$ARCHIVE CARGO_TARGET_DIR=$PWD/$built/rust \
-      cargo test --offline --locked --quiet --manifest-path bindings/rust/Cargo.toml >"$built/rust.log" 2>&1; then pass
-    else fail "the Rust bindings' tests: see $built/rust.log"
-    fi
+if with 'the header in C++' c++; then header c++ -std=c++11 -x c++; fi
+if with 'the Rust bindings' cargo cc; then
+  if MALOVUNETH_LIB_DIR=$ARCHIVE CARGO_TARGET_DIR=$PWD/$built/rust \
+    cargo test --offline --locked --quiet --manifest-path bindings/rust/Cargo.toml >"$built/rust.log" 2>&1 &&
+    grep -qE '^test result: ok\. [1-9]' "$built/rust.log"; then pass
+  else fail "the Rust bindings' tests: see $built/rust.log"
   fi
 fi
+finish

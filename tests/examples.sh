@@ -1,5 +1,11 @@
-# The example sheets, lowered by the program that rt ci built. Sourced by the test command, which has `pass` and `fail`.
+#!/usr/bin/env bash
+# The example sheets, lowered by the program that rt ci built.
+set -u
+cd "$(dirname "$0")/.." && . tests/part.sh || exit 2
+on_x86_64 'the examples' || finish
 for sheet in examples/*.sheet; do
+  [ -f "$sheet" ] || continue
   line=${sheet%.sheet}.line
-  if [ "$(target/bin/lower_main <"$sheet")" = "$(cat "$line")" ]; then pass; else fail "$sheet is not answered by $line"; fi
+  if [ -s "$line" ] && [ "$(target/bin/lower_main <"$sheet")" = "$(cat "$line")" ]; then pass; else fail "$sheet is not answered by $line"; fi
 done
+finish

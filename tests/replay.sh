@@ -1,6 +1,6 @@
 #!/usr/bin/env bash
-# Makes the list that the program replay is run on, and the answers expected: tests/replay.sh DIFFERENTIAL
-# DIFFERENTIAL is the built program of the differential test. Its `sample TASK 1 COUNT` prints fixed sheets in hexadecimal with the
+# Makes the list that the program replay is run on, and the answers expected: tests/replay.sh DIFFERENTIAL [FOLDER]
+# FOLDER is where the files stdin and stdout are written: crates/replay, if none is named. DIFFERENTIAL is the built program of the differential test. Its `sample TASK 1 COUNT` prints fixed sheets in hexadecimal with the
 # answers of the Rust that this is written after, some of each number: `verify` program sheets, with OK, 1 (one sheet of 32,769 bytes) and
 # 40 to 50; `check` contract sheets, with OK, 1, 3 and 4: what lowering asks before its walk; `lower` contract sheets, with OK, 1, 3, 4, 10 to
 # 20, 30 and 31. Then come
@@ -9,12 +9,14 @@
 # - the sheets of crates/definitions/specs/Readings.antt, and those of tests/readings.txt. Two of the former, 10a and 10b, lend an output of
 #   5 and of 0 bytes: replay lends 32,768 always, so they are rows of Readings.antt alone.
 # All answers are those that DIFFERENTIAL gives; the answers of Readings.antt have to be the same.
-# crates/replay/stdin: for each sheet what is asked (V: verify, C: check, L: lower), its length in four bytes, little-endian, then its bytes.
-# crates/replay/stdout: a line each.
+# stdin: for each sheet what is asked (V: verify, C: check, L: lower), its length in four bytes, little-endian, then its bytes.
+# stdout: a line each.
 set -eu
+[ $# = 1 ] || [ $# = 2 ] || { echo 'usage: tests/replay.sh DIFFERENTIAL [FOLDER]' >&2; exit 2; }
 differential=$(realpath "$1")
+folder=$(realpath "${2:-$(dirname "$0")/../crates/replay}")
 cd "$(dirname "$0")/.."
-python3 - "$differential" <<'PYTHON'
+python3 - "$differential" "$folder" <<'PYTHON'
 import re, subprocess, sys
 TASKS = {"V": "verify", "C": "check", "L": "lower"}
 def ask(*words, sheet=b""):
@@ -76,7 +78,9 @@ case("L", contract(*[when(one, block())] * 85, when(one, block())))
 case("L", contract(*[when(one, block())] * 85, loop(y)))
 
 readings = open("crates/definitions/specs/Readings.antt").read()
-for asks, sheet, accepted, answer in re.findall(r"asks = (.*?);\s*sheet = (.*?);\s*answer = (ok|err)(.*?);", readings, re.S):
+rows = re.findall(r"asks = (.*?);\s*sheet = (.*?);\s*answer = (ok|err)(.*?);", readings, re.S)
+assert len(rows) == len(re.findall(r": Reading$", readings, re.M)) > 0, "a row of Readings.antt is not read"
+for asks, sheet, accepted, answer in rows:
     sheet = bytes(int(b, 16) for b in re.findall(r"0x([0-9A-F]{2})", sheet))
     if accepted == "ok": answer = " ".join(["OK", *re.findall(r"0x([0-9A-F]{2})", answer)])
     else: answer = " ".join(re.findall(r"\b[0-9]+\b", answer))
@@ -91,7 +95,7 @@ for line in open("tests/readings.txt"):
         asked, sheet = line.split(" ")[:2]
         case(asked, bytes.fromhex(sheet.replace("-", "")))
 
-with open("crates/replay/stdin", "wb") as sheets, open("crates/replay/stdout", "w") as answers:
+with open(sys.argv[2] + "/stdin", "wb") as sheets, open(sys.argv[2] + "/stdout", "w") as answers:
     for asked, sheet, answer in cases:
         sheets.write(asked.encode() + len(sheet).to_bytes(4, "little") + sheet)
         answers.write(answer + "\n")

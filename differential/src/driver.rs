@@ -299,26 +299,33 @@ const SHORT: usize = 300;
 /// Cases and their answers: about `count`, the same share of each number,
 /// most of them short.
 pub fn sample(task: Task, seed: u64, count: usize) -> Vec<(Vec<u8>, Answer)> {
-    let mut by_number: BTreeMap<u16, BTreeMap<String, (Vec<u8>, Answer)>> = BTreeMap::new();
+    let mut by_number: BTreeMap<u16, Bucket> = BTreeMap::new();
     let random = (0..CANDIDATES).map(|index| task.case(seed, index));
     for case in task.fixed_cases().into_iter().chain(random) {
         let case = Case::of(case.sheet);
         let answer = task.expected(&case);
-        // One sheet, the shortest, for each answer and length.
-        let key = format!("{} {answer}", case.sheet.len());
         let bucket = by_number.entry(answer.number()).or_default();
-        bucket.entry(key).or_insert((case.sheet, answer));
+        // A long line is not written for a sheet that is not sampled.
+        if case.sheet.len() <= SHORT || !has_short(bucket) {
+            let key = (case.sheet.len(), answer.to_string());
+            bucket.entry(key).or_insert((case.sheet, answer));
+        }
     }
     let share = count.div_ceil(by_number.len());
     let buckets = by_number.into_values();
-    buckets
-        .flat_map(|bucket| spread(bucket.into_values().collect(), share))
-        .collect()
+    buckets.flat_map(|bucket| spread(bucket, share)).collect()
+}
+
+/// The sheets of a number: one, the first, for each length and answer.
+type Bucket = BTreeMap<(usize, String), (Vec<u8>, Answer)>;
+
+fn has_short(bucket: &Bucket) -> bool {
+    matches!(bucket.first_key_value(), Some(((length, _), _)) if *length <= SHORT)
 }
 
 /// Some of the pairs, from the shortest on, denser among the short ones.
-fn spread(mut pairs: Vec<(Vec<u8>, Answer)>, share: usize) -> Vec<(Vec<u8>, Answer)> {
-    pairs.sort_by_key(|(sheet, answer)| (sheet.len(), answer.to_string()));
+fn spread(bucket: Bucket, share: usize) -> Vec<(Vec<u8>, Answer)> {
+    let mut pairs: Vec<_> = bucket.into_values().collect();
     let short = pairs.iter().filter(|pair| pair.0.len() <= SHORT).count();
     pairs.truncate(short.max(1));
     let total = pairs.len();

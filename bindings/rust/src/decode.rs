@@ -1,5 +1,5 @@
-//! The archive's numbers as answers. Numbers that document 01 does not have, or
-//! has with other details, are no answer.
+//! The archive's numbers as answers. Numbers that docs/FORMAT.md does not have,
+//! or has with other details, are no answer.
 
 #![forbid(unsafe_code)]
 

@@ -2,8 +2,10 @@
 //! the proved static library `libmalovuneth.a`.
 //!
 //! Both functions take any bytes, and end on all of them. A sheet is accepted,
-//! or refused with a [`Refusal`], which has the number and the details that
-//! document 01 gives.
+//! or refused with a [`Refusal`], which has a number and its details.
+//!
+//! The project's docs/FORMAT.md has both sheets record by record, what lowering
+//! writes, what verifying asks, and an example of each number.
 //!
 //! ```
 //! use malovuneth::{lower, lower_to_vec, verify, Name, Refusal, Type, ValueId, MOST_BYTES};
@@ -48,7 +50,7 @@
 //!
 //! # What the archive hands back
 //!
-//! It is checked too. An answer that document 01 does not have, or a length
+//! It is checked too. An answer that docs/FORMAT.md does not have, or a length
 //! over the output's, is no answer of this version's archive, which is proved
 //! to give none: another archive was linked. The functions then panic, since
 //! no [`Refusal`] would be true, and the output may hold anything.
@@ -75,7 +77,7 @@ pub const MOST_BYTES: usize = 32_768;
 ///
 /// # Errors
 ///
-/// Refusals 1, 3, 4, 10 to 20, 30 and 31 of document 01.
+/// Refusals 1, 3, 4, 10 to 20, 30 and 31.
 ///
 /// # Panics
 ///
@@ -109,7 +111,7 @@ pub fn lower_to_vec(sheet: &[u8]) -> Result<Vec<u8>, Refusal> {
 ///
 /// # Errors
 ///
-/// Refusals 1 and 40 to 50 of document 01.
+/// Refusals 1 and 40 to 50.
 ///
 /// # Panics
 ///

@@ -1,4 +1,4 @@
-//! Refusals, by document 01's table.
+//! Refusals, by the table of numbers in docs/FORMAT.md.
 
 #![forbid(unsafe_code)]
 
@@ -60,8 +60,8 @@ impl Display for Type {
     }
 }
 
-/// Why a sheet was refused: a variant for each number of document 01's table,
-/// with its details in their order.
+/// Why a sheet was refused: a variant for each number, with its details in
+/// their order.
 ///
 /// Lowering gives 1, 3, 4, 10 to 20, 30 and 31, verifying 1 and 40 to 50.
 #[derive(Debug, Clone, Copy, PartialEq, Eq, Hash)]
@@ -343,7 +343,7 @@ const LIMIT: &str = "first record that is the 65th function, 65th struct, 257th 
     arguments, or has depth 41";
 const MADE: &str = "a function's 257th block or 257th local would be made";
 
-/// The function, document 01's words, the other details.
+/// The function, what the number is given for, the other details.
 impl Display for Refusal {
     fn fmt(&self, f: &mut Formatter<'_>) -> fmt::Result {
         if let Some(function) = self.function() {

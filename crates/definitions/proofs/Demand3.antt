@@ -1,25 +1,22 @@
 -- DEMAND 3 holds. Assumes nothing.
 use mathlib.Core.Path.{_≡_, refl, ap, sym, _∙_, subst}
-use mathlib.Core.Logic.{_⊎_, inl, inr}
+use mathlib.Core.Logic.{inl, inr}
 use mathlib.Core.Bool.{Bool, true, false, _&&_}
-use mathlib.Core.List.{List, [], _∷_}
-use Prim.Native.Nat.{ℕ, suc, _-_, _≤_}
-use native.Mathlib.Omega.{arith}
+use mathlib.Core.List.{[]}
+use Prim.Native.Nat.{ℕ, _≤_}
 use lib.Dec.{leb}
 use lib.ListN.{length}
 use borrow.Author.Tests.{leb-true, le-leb}
-use Rattle.definitions.specs.Result.{Result, err, ok, _>>=_, _>>_, mapErr, Done, check}
-use Rattle.definitions.specs.Fields.{Bytes}
-use Rattle.definitions.specs.Ast.{Contract}
+use Rattle.definitions.specs.Result.{Result, err, ok, _>>=_, _>>_, mapErr, Done}
 use Rattle.definitions.specs.Ir.{IrProgram}
-use Rattle.definitions.specs.Lower.{LoweringError, Lowering, lowerContract}
+use Rattle.definitions.specs.Lower.{Lowering, lowerContract}
 use Rattle.definitions.specs.Verify.{VerifyError, verifyProgram}
 use Rattle.definitions.specs.Records.{Form, Good, Bad, checkRecords}
 use Rattle.definitions.specs.ContractSheet.{readContract, refusal3, refusal4}
-use Rattle.definitions.specs.ProgramSheet.{writeProgram, readProgram, refusal40}
-use Rattle.definitions.specs.Answers.{Refusal, refusal, Answer, refuseForm, lowerRefusal, verifyRefusal, checkContract, lowerSheet, verifySheet}
+use Rattle.definitions.specs.ProgramSheet.{writeProgram}
+use Rattle.definitions.specs.Answers.{Refusal, refusal, refuseForm, lowerRefusal, verifyRefusal, checkContract, lowerSheet, verifySheet}
 use Rattle.definitions.specs.Demand3.{NeverLacks, AcceptedOr45to47, Demand3Of, Demand3}
-use Rattle.definitions.proofs.Results.{ok-inj, err-ok, taking, taking-then, taking-check}
+use Rattle.definitions.proofs.Results.{ok-inj, err-ok, taking-then, taking-check}
 use Rattle.definitions.proofs.Sheets.Passed.{fine}
 use Rattle.definitions.proofs.Runs.Functions.{run-never-lacks}
 use Rattle.definitions.proofs.Runs.Verifies.{Typing, Expected, verifier-expected}
@@ -79,7 +76,8 @@ demand3 s h room b e =
     let small : Small (readContract s) = sheet-small s _ h (fine _ s 0 (length s) _ g) g′ in
     let short : length (writeProgram p) ≤ 32768 = leb-true _ _ (and-true _ _ t) in
     let f : Fits p = lowered-fits (readContract s) p small l short in
-    subst Demand3Of (ok-inj e₅) (record {
+    subst (Demand3Of s) (ok-inj e₅) (record {
+      lowered = l ∙ ap ok (sym (round-trip p f));
       runs = subst NeverLacks (sym (round-trip p f)) (run-never-lacks (readContract s) p l);
       verifies = verified p f short (verifier-expected (readContract s) p l);
     })

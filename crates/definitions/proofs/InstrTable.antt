@@ -1,14 +1,14 @@
 -- The 22 rows are what `Ir` says of the instructions, and each kind has its row. Assumes nothing.
-use Prim.Native.Nat.{ℕ, _+_, _≤_}
+use Prim.Native.Nat.{ℕ, _+_}
 use mathlib.Core.Path.{_≡_, refl}
 use mathlib.Core.List.{List, [], _∷_, map}
-use mathlib.Core.Option.{Option, none, some}
-use mathlib.Core.Bool.{Bool, true, false}
+use mathlib.Core.Option.{some}
+use mathlib.Core.Bool.{Bool, true}
 use lib.Dec.{eqb}
 use lib.ListN.{length}
 use Rattle.definitions.specs.Ast.{BinOp}
-use Rattle.definitions.specs.Ir.{IrType, Effect, Instruction, resultType, effect, operands}
-use Rattle.definitions.specs.InstrTable.{ResultRule, Reads, KindRow, kindRows, kindRow, kindOf, typeBy}
+use Rattle.definitions.specs.Ir.{IrType, Instruction, resultType, effect, operands}
+use Rattle.definitions.specs.InstrTable.{Reads, KindRow, kindRows, kindRow, kindOf, typeBy}
 
 -- the type that an instruction has, where it has one
 abbrev pub ownType : Instruction → IrType

@@ -7,6 +7,10 @@ pub mod Sheets
 pub mod Programs
 pub mod Contracts
 pub mod Demand3
+pub mod RulesOut
+pub mod RunRows
+pub mod ReadsRows
+pub mod Demand3Rows
 pub mod Meaning
 pub mod InstrTable
 pub mod Readings

@@ -3,3 +3,4 @@ pub mod Back
 pub mod RoundTrip
 pub mod Contents
 pub mod Lowered
+pub mod Written

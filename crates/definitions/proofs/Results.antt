@@ -1,6 +1,6 @@
 -- Taking a computed `Result` apart. Assumes nothing.
 use Prim.Native.Nat.{ℕ, suc, _+_, _<_}
-use mathlib.Core.Path.{_≡_, refl, ap, sym}
+use mathlib.Core.Path.{_≡_, refl, sym}
 use mathlib.Core.Bool.{Bool, true, false}
 use mathlib.Core.List.{List, [], _∷_}
 use mathlib.Core.Option.{Option, none, some}
@@ -8,7 +8,7 @@ use native.Mathlib.Omega.{arith}
 use lib.Dec.{eqb}
 use lib.ListN.{length}
 use Rattle.definitions.specs.Names.{orThis, lastNamed, firstNamed}
-use Rattle.definitions.specs.Result.{Result, err, ok, _>>=_, _>>_, okOrElse, Done, check}
+use Rattle.definitions.specs.Result.{Result, err, ok, _>>=_, _>>_, okOrElse, check}
 
 pub some-none : {A : Type 0} (a : A) → some a ≡ none → ⊥
 some-none a e = let z : _≡_ {A = ℕ} 0 1 = cc in omega arith

@@ -8,3 +8,4 @@ pub mod Written
 pub mod Lines
 pub mod Steps
 pub mod Singles
+pub mod Again

@@ -1,23 +1,24 @@
 -- Contracts as sheets and back (document 01, "Contract sheet"), and refusals 3 and 4. Assumes nothing: these are definitions.
-use Prim.Native.Nat.{ℕ, zero, suc, _+_}
-use mathlib.Core.Path.{_≡_}
-use mathlib.Core.Bool.{Bool, true, false}
+use Prim.Native.Nat.{ℕ, suc, _+_}
+use mathlib.Core.Bool.{Bool, false, _&&_, _||_}
 use mathlib.Core.List.{List, [], _∷_, map}
-use mathlib.Core.Option.{Option, none, some}
 use lib.Dec.{leb, eqb}
 use lib.ListN.{length}
-use Rattle.definitions.specs.Fields.{Bytes}
 use Rattle.definitions.specs.Ast.{BinOp, Expr, Exprs, enil, econs, FieldInits, fnil, fcons, OptExpr, absent, present, Stmt, Stmts, snil, scons, OptStmts, noElse, elseDo, StorageField, Param, Struct, Function, Contract}
 use Rattle.definitions.specs.Grammar.{Class, one, done}
-use Rattle.definitions.specs.Records.{pick, Item, small, opt, word, ty, param, pair, Value, item, group, rest, Tree, node, Trees, tnil, tcons, writeTree, readRecords, Form, Good, Bad, andThen, checkRecords, itemsAt, numAt, optAt, gather, treesOf}
+use Rattle.definitions.specs.Records.{pick, Item, small, opt, word, ty, param, pair, Value, item, group, rest, Tree, node, Trees, tnil, tcons, writeTree, readRecords, Form, Good, Bad, andThen, checkRecords, itemsAt, numAt, optAt, gather, treesOf, ReadsAll}
 
--- READING
+-- READING, of a sheet that passed refusal 3. The last case of a chain of tests has none: a comment says for which kind it stands. No other kind is met
+-- there: it would be written back as that kind, and `NothingOverlooked`, at the end of this file, says that writing gives the very bytes that were read.
+-- By the same law nothing is missing where 0 or an empty list stands for what is not there.
+
+-- an operator by its number; the last is 9, Gte (`NothingOverlooked`)
 abbrev pub opOf : ℕ → BinOp
 opOf k =
     pick (eqb k 0) BinOp.Add (pick (eqb k 1) BinOp.Sub (pick (eqb k 2) BinOp.Mul (pick (eqb k 3) BinOp.Div (pick (eqb k 4) BinOp.Eq
     (pick (eqb k 5) BinOp.Neq (pick (eqb k 6) BinOp.Lt (pick (eqb k 7) BinOp.Gt (pick (eqb k 8) BinOp.Lte BinOp.Gte))))))))
 
--- the first of a list, what follows it, and the first if there is one
+-- the first of a list, which is not missing (`NothingOverlooked`); what follows it; and the first if there is one
 abbrev pub firstE : Exprs → Expr
 firstE enil = Expr.Int 0 0
 firstE (econs e es) = e
@@ -30,14 +31,15 @@ abbrev pub optE : Exprs → OptExpr
 optE enil = absent
 optE (econs e es) = present e
 
--- the fields of a struct literal: their records, and the expressions in them
+-- the fields of a struct literal: their records, and the expressions in them, of which there are as many
 abbrev pub fieldInitsOf : Trees → Exprs → FieldInits
 fieldInitsOf tnil es = fnil
 fieldInitsOf (tcons (node at k v ts) more) enil = fnil
 fieldInitsOf (tcons (node at k v ts) more) (econs e es) = fcons at (numAt 0 v) e (fieldInitsOf more es)
 
--- an expression by its place, kind, fields and children; a field's record (6) stands for the expression in it
-abbrev pub exprFrom : ℕ → ℕ → List Value → Trees → Exprs → Expr
+-- An expression by its place, kind, fields and children. The last is 6, a field's record, which stands for the expression in it (`NothingOverlooked`).
+-- A statement's blocks (5), and what is in them, come by here as well: what is made of them stands behind the statement's expressions and is not used.
+abbrev pub exprFrom : (place kind : ℕ) → List Value → Trees → Exprs → Expr
 exprFrom at k v ts es =
     pick (eqb k 30) (Expr.Int at (numAt 0 v))
     (pick (eqb k 31) (Expr.Ident at (numAt 0 v))
@@ -78,8 +80,8 @@ abbrev pub optB : Blocks → OptStmts
 optB noBlock = noElse
 optB (andBlock p ss bs) = elseDo p ss
 
--- a statement by its place, kind, fields, expressions and blocks
-abbrev pub stmtFrom : ℕ → ℕ → List Value → Exprs → Blocks → Stmt
+-- a statement by its place, kind, fields, expressions and blocks; the last is 20, Expr (`NothingOverlooked`)
+abbrev pub stmtFrom : (place kind : ℕ) → List Value → Exprs → Blocks → Stmt
 stmtFrom at k v es bs =
     pick (eqb k 10) (Stmt.Let at (numAt 0 v) (firstE es))
     (pick (eqb k 11) (Stmt.Constrain at (firstE es))
@@ -110,6 +112,7 @@ unfoldable mutual
   pub addBlock : Tree → Blocks → Blocks
   addBlock (node at k v ts) bs = pick (eqb k 5) (andBlock at (stmtsOf ts) bs) bs
 
+-- a struct's field, or a parameter: Grammar's rows 3 and 4 have pairs, and no other form is met (`NothingOverlooked`)
 abbrev pub paramOf : Item → Param
 paramOf (small n) = record { name = 0; ty = 0 }
 paramOf (opt o) = record { name = 0; ty = 0 }
@@ -130,6 +133,7 @@ structOf (node at k v ts) = record { place = at; name = numAt 0 v; fields = para
 unfoldable pub functionOf : Tree → Function
 functionOf (node at k v ts) = record { place = at; name = numAt 0 v; params = paramsAt 3 v; returnType = optAt 1 v; body = stmtsOf ts; isPub = eqb (numAt 2 v) 1 }
 
+-- no record at all does not pass refusal 3: what is written has 8 bytes or more (`NothingOverlooked`)
 unfoldable pub contractOf : Trees → Contract
 contractOf tnil = record { place = 0; name = 0; storage = []; structs = []; functions = [] }
 contractOf (tcons (node at k v ts) more) = record { place = at; name = numAt 0 v; storage = gather 2 2 storageOf ts; structs = gather 3 3 structOf ts; functions = gather 4 4 functionOf ts }
@@ -147,35 +151,63 @@ unfoldable pub countTrees : Trees → ℕ
 countTrees tnil = 0
 countTrees (tcons t ts) = suc (countTrees ts)
 
-abbrev pub either : Bool → Bool → Bool
-either true b = true
-either false b = b
+-- how many storage fields, structs and functions came before a record
+pub record Counts : Type 0 where
+  pub storage : ℕ
+  pub structs : ℕ
+  pub functions : ℕ
 
--- a record of kind k with fields v and m children, at a depth, after a storage fields, b structs and c functions
-unfoldable pub over : ℕ → List Value → ℕ → ℕ → ℕ → ℕ → ℕ → Bool
-over k v m depth a b c =
-    either (leb 41 depth)
-    (pick (eqb k 2) (leb 256 a)
-    (pick (eqb k 3) (either (leb 64 b) (leb 65 (length (itemsAt 1 v))))
-    (pick (eqb k 4) (either (leb 64 c) (leb 17 (length (itemsAt 3 v))))
-    (pick (eqb k 19) (leb 17 m) (pick (eqb k 37) (leb 17 m) false)))))
+abbrev pub noneBefore : Counts
+noneBefore = record { storage = 0; structs = 0; functions = 0 }
 
--- 1 for a record of kind j
-abbrev pub oneIf : ℕ → Tree → ℕ
+-- 1 for a record of the kind
+abbrev pub oneIf : (kind : ℕ) → Tree → ℕ
 oneIf j (node at k v ts) = pick (eqb k j) 1 0
+
+-- with this record among them
+abbrev pub andThis : Tree → Counts → Counts
+andThis t n = record { storage = n .storage + oneIf 2 t; structs = n .structs + oneIf 3 t; functions = n .functions + oneIf 4 t }
+
+-- what the limits look at: a record's kind, its fields, how many children it has, its depth, and what came before it
+pub record Measured : Type 0 where
+  pub kind : ℕ
+  pub fields : List Value
+  pub children : ℕ
+  pub depth : ℕ
+  pub before : Counts
+
+-- document 01's row 4, a line for each limit: whether the record is over it
+abbrev pub overLimits : Measured → List Bool
+overLimits r =
+    (eqb (r .kind) 4 && leb 64 (r .before .functions)) ∷  -- the 65th function
+    (eqb (r .kind) 3 && leb 64 (r .before .structs)) ∷  -- the 65th struct
+    (eqb (r .kind) 2 && leb 256 (r .before .storage)) ∷  -- the 257th storage field
+    (eqb (r .kind) 3 && leb 65 (length (itemsAt 1 (r .fields)))) ∷  -- a struct of over 64 fields
+    (eqb (r .kind) 4 && leb 17 (length (itemsAt 3 (r .fields)))) ∷  -- a function of over 16 parameters
+    (eqb (r .kind) 37 && leb 17 (r .children)) ∷  -- a Call of over 16 arguments
+    (eqb (r .kind) 19 && leb 17 (r .children)) ∷  -- an Emit of over 16 arguments
+    leb 41 (r .depth) ∷ []  -- has depth 41
+
+abbrev pub anyOf : List Bool → Bool
+anyOf [] = false
+anyOf (b ∷ bs) = b || anyOf bs
+
+unfoldable pub over : Measured → Bool
+over r = anyOf (overLimits r)
 
 unfoldable mutual
   unfolding countTrees
 
-  pub limitTree : Tree → ℕ → ℕ → ℕ → ℕ → Form
-  limitTree (node at k v ts) depth a b c = pick (over k v (countTrees ts) depth a b c) (Bad at) (limitTrees ts (suc depth) 0 0 0)
+  pub limitTree : Tree → (depth : ℕ) → Counts → Form
+  limitTree (node at k v ts) depth before =
+      pick (over (record { kind = k; fields = v; children = countTrees ts; depth = depth; before = before })) (Bad at) (limitTrees ts (suc depth) noneBefore)
 
-  pub limitTrees : Trees → ℕ → ℕ → ℕ → ℕ → Form
-  limitTrees tnil depth a b c = Good
-  limitTrees (tcons t ts) depth a b c = andThen (limitTree t depth a b c) (limitTrees ts depth (a + oneIf 2 t) (b + oneIf 3 t) (c + oneIf 4 t))
+  pub limitTrees : Trees → (depth : ℕ) → Counts → Form
+  limitTrees tnil depth before = Good
+  limitTrees (tcons t ts) depth before = andThen (limitTree t depth before) (limitTrees ts depth (andThis t before))
 
 unfoldable pub refusal4 : List ℕ → Form
-refusal4 s = limitTrees (readRecords s 0 (length s)) 1 0 0 0
+refusal4 s = limitTrees (readRecords s 0 (length s)) 1 noneBefore
 
 -- WRITING
 abbrev pub opNumber : BinOp → ℕ
@@ -263,4 +295,4 @@ writeContract K = writeTree (contractTree K)
 
 -- NOTHING IS OVERLOOKED: a sheet that passes refusal 3 is, byte for byte, the writing of the contract that is read from it
 abbrev pub NothingOverlooked : Type 0
-NothingOverlooked = (s : List ℕ) → Bytes s → refusal3 s ≡ Good → writeContract (readContract s) ≡ s
+NothingOverlooked = ReadsAll refusal3 readContract writeContract

@@ -17,5 +17,9 @@ pub mod Answers
 pub mod Lines
 pub mod Demand3
 pub mod Rows
+pub mod RulesOut
+pub mod RunRows
+pub mod ReadsRows
+pub mod Demand3Rows
 pub mod Meaning
 pub mod Readings

@@ -12,7 +12,8 @@ use Rattle.definitions.specs.Answers.{Answer}
 abbrev pub digit : ℕ → ℕ
 digit d = 48 + d
 
--- the last k decimal digits of n, the most significant first, with no zeros in front
+-- the decimal digits of n, the most significant first: all of them, with no zero in front (0 is one digit), if n has k digits at most;
+-- of a longer number the last k, which may begin with zeros
 unfoldable pub digitsWithin : (k : ℕ) → ℕ → List ℕ
 digitsWithin zero n = []
 digitsWithin (suc k) n = cond (ltb n 10) (digit n ∷ []) (digitsWithin k (n / 10) ++ (digit (n % 10) ∷ []))

@@ -10,7 +10,10 @@ use Rattle.definitions.specs.Ir.{IrFunction}
 use Rattle.definitions.specs.Run.{Way, thenWay, elseWay, Pick, State, at, ended, lacks, run}
 use Rattle.definitions.specs.ProgramSheet.{readProgram}
 use Rattle.definitions.specs.Answers.{Refusal, refusal, Answer, lowerSheet, verifySheet}
-use Rattle.definitions.specs.Rows.{P3, P7, P12}
+use Rattle.definitions.specs.Rows.{Row, P1, P3, P7, P12, Holds}
+use Rattle.definitions.specs.Readings.{Reading, lowers, Answered}
+use Rattle.definitions.specs.RunRows.{StateRow, StepsRow, Reaches, Steps}
+use Rattle.definitions.specs.ReadsRows.{Equal}
 
 -- where the run of a program's first function stands after the picks, with no parameter
 pub data Stands : Type 0 where
@@ -54,6 +57,10 @@ endsVerified = ok (record { verified = ok []; stands = hasEnded })
 -- P3 is accepted, and its run meets the Return and ends
 abbrev returns : RunRow
 returns = record { sheet = P3 .sheet; picks = times 2 (7, thenWay); result = endsVerified }
+
+-- P1 has no function
+abbrev empty : RunRow
+empty = record { sheet = P1 .sheet; picks = times 2 (7, thenWay); result = ok (record { verified = ok []; stands = noFunction }) }
 
 -- one pick less: the run is still going on
 abbrev goesOn : RunRow
@@ -112,7 +119,7 @@ closedScope = record {
 }
 
 abbrev pub runRows : List RunRow
-runRows = returns ∷ goesOn ∷ leavesWhile ∷ leavesFor ∷ assigns ∷ letItself ∷ closedScope ∷ []
+runRows = returns ∷ empty ∷ goesOn ∷ leavesWhile ∷ leavesFor ∷ assigns ∷ letItself ∷ closedScope ∷ []
 
 abbrev pub Runs : RunRow → Type 0
 Runs r = comesTo (lowerSheet (r .sheet) 32768) (r .picks) ≡ r .result
@@ -135,5 +142,44 @@ lackingProgram =
     0x08 ∷ 0x00 ∷ 0x00 ∷ 0x00 ∷ 0x5C ∷ 0x00 ∷ 0x00 ∷ 0x00 ∷  -- Return
     0x0A ∷ 0x00 ∷ 0x00 ∷ 0x00 ∷ 0x34 ∷ 0x00 ∷ 0x0B ∷ 0x00 ∷ 0x00 ∷ 0x00 ∷ []  -- function name
 
+abbrev lackingPicks : List Pick
+lackingPicks = times 2 (0, thenWay)
+
 abbrev pub LackingProgramLacks : Type 0
-LackingProgramLacks = ranOn lackingProgram (times 2 (0, thenWay)) ≡ record { verified = ok []; stands = hasLacked }
+LackingProgramLacks = ranOn lackingProgram lackingPicks ≡ record { verified = ok []; stands = hasLacked }
+
+-- THE ROWS SAY SOMETHING: each of their laws is false of a row with a wrong answer
+abbrev pub wrongSheet : Row
+wrongSheet = record { sheet = P1 .sheet; lowered = err (refusal 3 []); verified = P1 .verified }
+
+abbrev pub wrongVerified : Row
+wrongVerified = record { sheet = P1 .sheet; lowered = P1 .lowered; verified = none }
+
+abbrev pub wrongReading : Reading
+wrongReading = record { asks = lowers 32768; sheet = []; answer = ok [] }
+
+abbrev pub wrongRun : RunRow
+wrongRun = record { sheet = P3 .sheet; picks = times 2 (7, thenWay); result = ok (record { verified = ok []; stands = hasLacked }) }
+
+abbrev pub wrongState : StateRow
+wrongState = record { blocks = []; params = []; words = []; picks = []; state = ended }
+
+abbrev pub wrongSteps : StepsRow
+wrongSteps = record { blocks = []; params = []; words = []; from = lacks; picks = []; state = ended }
+
+abbrev pub wrongPair : ℕ × ℕ
+wrongPair = (0, 1)
+
+abbrev rightPair : ℕ × ℕ
+rightPair = (1, 1)
+
+pub record WrongRowsRefused : Type 0 where
+  pub sheet : Holds wrongSheet → ⊥
+  pub verified : Holds wrongVerified → ⊥
+  pub reading : Answered wrongReading → ⊥
+  pub run : Runs wrongRun → ⊥
+  pub state : Reaches wrongState → ⊥
+  pub steps : Steps wrongSteps → ⊥
+  pub pair : Equal wrongPair → ⊥
+  pub first : All Equal (wrongPair ∷ rightPair ∷ []) → ⊥
+  pub second : All Equal (rightPair ∷ wrongPair ∷ []) → ⊥

@@ -1,6 +1,5 @@
 -- Programs as sheets and back (document 01, "Program sheet"), and refusal 40. Assumes nothing: these are definitions.
 use Prim.Native.Nat.{ℕ}
-use mathlib.Core.Bool.{Bool, true, false}
 use mathlib.Core.List.{List, [], _∷_, map}
 use mathlib.Core.Option.{Option, none, some}
 use lib.Dec.{leb, eqb}
@@ -9,7 +8,7 @@ use Rattle.definitions.specs.Ast.{BinOp}
 use Rattle.definitions.specs.Ir.{IrType, Instruction, Terminator, InstrNode, BasicBlock, IrFunction, IrProgram}
 use Rattle.definitions.specs.InstrTable.{kindOf}
 use Rattle.definitions.specs.Grammar.{Class, one, done}
-use Rattle.definitions.specs.Records.{pick, Item, small, opt, word, ty, param, Value, item, group, rest, Tree, node, Trees, tnil, tcons, writeTree, readRecords, Form, checkRecords, numberOf, typeOf, itemsAt, numAt, typeAt, optAt, gather, treesOf}
+use Rattle.definitions.specs.Records.{pick, Item, small, opt, word, ty, param, Value, item, group, rest, Tree, node, Trees, tnil, tcons, writeTree, readRecords, Form, checkRecords, numberOf, typeOf, itemsAt, numAt, typeAt, optAt, gather, treesOf, ReadsAll}
 
 -- WRITING. A record that is written has no place yet: 0 stands for it.
 abbrev unplaced : ℕ → List Value → Trees → Tree
@@ -73,7 +72,10 @@ programTree p = unplaced 50 [] (treesOf functionTree (p .functions) (treesOf fun
 unfoldable pub writeProgram : IrProgram → List ℕ
 writeProgram p = writeTree (programTree p)
 
--- READING
+-- READING, of a sheet that passed refusal 40. The last case of a chain of tests has none: a comment says for which kind it stands. No other kind is met
+-- there: it would be written back as that kind, and `NothingOverlookedInPrograms` says that writing gives the very bytes that were read.
+
+-- an operator by its instruction's kind; the last is 70, Gte (`NothingOverlookedInPrograms`)
 abbrev pub binaryOf : ℕ → BinOp
 binaryOf k =
     pick (eqb k 61) BinOp.Add (pick (eqb k 62) BinOp.Sub (pick (eqb k 63) BinOp.Mul (pick (eqb k 64) BinOp.Div (pick (eqb k 65) BinOp.Eq
@@ -82,7 +84,7 @@ binaryOf k =
 abbrev numsAt : ℕ → List Value → List ℕ
 numsAt i vs = map numberOf (itemsAt i vs)
 
--- field 0 is the result
+-- an instruction by its kind and fields, of which 0 is the result; 61 to 70 are the operators; the last is 81, ContextRead (`NothingOverlookedInPrograms`)
 abbrev pub instrOf : ℕ → List Value → Instruction
 instrOf k v =
     pick (eqb k 60) (Instruction.Const (typeAt 1 v) (numAt 2 v))
@@ -102,6 +104,7 @@ instrOf k v =
 abbrev pub instrNodeOf : Tree → InstrNode
 instrNodeOf (node at k v ts) = record { result = optAt 0 v; instr = instrOf k v }
 
+-- a terminator; the last is 93, Unreachable (`NothingOverlookedInPrograms`)
 abbrev pub termOf : Tree → Terminator
 termOf (node at k v ts) =
     pick (eqb k 90) (Terminator.Jump (numAt 0 v))
@@ -128,6 +131,7 @@ functionOf (node at k v ts) = record { id = numAt 0 v; name = numAt 1 v; params 
 abbrev pub functionNameOf : Tree → ℕ × ℕ
 functionNameOf (node at k v ts) = (numAt 0 v, numAt 1 v)
 
+-- no record at all does not pass refusal 40: what is written has 6 bytes or more (`NothingOverlookedInPrograms`)
 abbrev pub programOf : Trees → IrProgram
 programOf tnil = record { functions = []; functionNames = [] }
 programOf (tcons (node at k v ts) more) = record { functions = gather 51 51 functionOf ts; functionNames = gather 52 52 functionNameOf ts }
@@ -138,3 +142,7 @@ readProgram s = programOf (readRecords s 0 (length s))
 -- REFUSAL 40: one program and nothing after it
 unfoldable pub refusal40 : List ℕ → Form
 refusal40 s = checkRecords s 0 (length s) (one Class.program done)
+
+-- NOTHING IS OVERLOOKED: a sheet that passes refusal 40 is, byte for byte, the writing of the program that is read from it
+abbrev pub NothingOverlookedInPrograms : Type 0
+NothingOverlookedInPrograms = ReadsAll refusal40 readProgram writeProgram

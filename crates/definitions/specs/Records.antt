@@ -2,12 +2,13 @@
 -- Refusals 3 and 40 with their place are `checkRecords` (document 01, "Contract sheet" and the table's row 3).
 -- Assumes nothing: these are definitions.
 use Prim.Native.Nat.{ℕ, zero, suc, _+_, _-_, _*_, _/_, _%_}
+use mathlib.Core.Path.{_≡_}
 use mathlib.Core.Bool.{Bool, true, false, _&&_}
 use mathlib.Core.List.{List, [], _∷_, _++_}
 use mathlib.Core.Option.{Option, none, some}
 use lib.Dec.{leb, eqb}
 use lib.ListN.{length, getD}
-use Rattle.definitions.specs.Fields.{le, bytes}
+use Rattle.definitions.specs.Fields.{le, bytes, Bytes}
 use Rattle.definitions.specs.Ir.{IrType, tagOf, nameOf}
 use Rattle.definitions.specs.Grammar.{Entry, upTo, optional, number, irType, valueAndType, nameAndType, Field, single, counted, listed, Class, classNo, Pattern, done, one, perhaps, many, Line, kind, rows}
 
@@ -25,13 +26,16 @@ pub data Item : Type 0 where
   param : (value : ℕ) → IrType → Item
   pair : (name type : ℕ) → Item
 
-unfoldable pub typeFrom : ℕ → ℕ → IrType
+-- A type by its tag and name. The last is tag 4, Void: `okType` lets no tag above 4 by, and the type that is read is written back as the tag and
+-- name that stood there (`NothingOverlookedInPrograms` of ProgramSheet).
+unfoldable pub typeFrom : (tag name : ℕ) → IrType
 typeFrom t n = pick (eqb t 0) IrType.U64 (pick (eqb t 1) IrType.BoolT (pick (eqb t 2) IrType.FieldT (pick (eqb t 3) (IrType.Struct n) IrType.Void)))
 
 -- a type's name is 0 unless its tag is 3
-unfoldable pub okType : ℕ → ℕ → Bool
-okType t n = pick (eqb t 3) (leb n 65534) (pick (leb t 4) (eqb n 0) false)
+unfoldable pub okType : (tag name : ℕ) → Bool
+okType t n = pick (eqb t 3) (leb n 65534) (leb t 4 && eqb n 0)
 
+-- 65,535 marks an absent one; the last is any other number (`NothingOverlooked` of ContractSheet, `NothingOverlookedInPrograms` of ProgramSheet)
 unfoldable pub optFrom : ℕ → Option ℕ
 optFrom n = pick (eqb n 65535) none (some n)
 
@@ -61,8 +65,8 @@ okItem (upTo m) s at = leb (le 2 s at) m
 okItem optional s at = true
 okItem (number n) s at = true
 okItem irType s at = okType (le 2 s at) (le 2 s (at + 2))
-okItem valueAndType s at = pick (leb (le 2 s at) 65534) (okType (le 2 s (at + 2)) (le 2 s (at + 2 + 2))) false
-okItem nameAndType s at = pick (leb (le 2 s at) 65534) (leb (le 2 s (at + 2)) 65534) false
+okItem valueAndType s at = leb (le 2 s at) 65534 && okType (le 2 s (at + 2)) (le 2 s (at + 2 + 2))
+okItem nameAndType s at = leb (le 2 s at) 65534 && leb (le 2 s (at + 2)) 65534
 
 unfoldable pub readItem : Entry → List ℕ → ℕ → Item
 readItem (upTo m) s at = small (le 2 s at)
@@ -78,7 +82,7 @@ writeItems (i ∷ is) = writeItem i ++ writeItems is
 
 unfoldable pub okItems : Entry → ℕ → List ℕ → ℕ → Bool
 okItems e zero s at = true
-okItems e (suc n) s at = pick (okItem e s at) (okItems e n s (at + sizeOf e)) false
+okItems e (suc n) s at = okItem e s at && okItems e n s (at + sizeOf e)
 
 unfoldable pub readItems : Entry → ℕ → List ℕ → ℕ → List Item
 readItems e zero s at = []
@@ -95,17 +99,23 @@ writeValue (item i) = writeItem i
 writeValue (group is) = bytes 2 (length is) ++ writeItems is
 writeValue (rest is) = writeItems is
 
--- the place after a field of a record that stops at `stop`; 0 if the field is not valid or does not fit
-unfoldable pub past : Field → List ℕ → ℕ → ℕ → ℕ
-past (single e) s stop at = pick (leb (sizeOf e) (stop - at)) (pick (okItem e s at) (at + sizeOf e) 0) 0
-past (counted e) s stop at =
-    pick (leb 2 (stop - at))
-    (pick (leb (sizeOf e * le 2 s at) (stop - (at + 2))) (pick (okItems e (le 2 s at) s (at + 2)) (at + 2 + sizeOf e * le 2 s at) 0) 0)
-    0
-past (listed e) s stop at =
-    pick (eqb ((stop - at) % sizeOf e) 0) (pick (okItems e ((stop - at) / sizeOf e) s at) stop 0) 0
+-- where a field ends that starts at `at`, in a record that stops at `stop`
+unfoldable pub fieldEnd : Field → List ℕ → (stop at : ℕ) → ℕ
+fieldEnd (single e) s stop at = at + sizeOf e
+fieldEnd (counted e) s stop at = at + 2 + sizeOf e * le 2 s at
+fieldEnd (listed e) s stop at = stop
 
-unfoldable pub readValue : Field → List ℕ → ℕ → ℕ → Value
+-- the record covers the field and ends no list within an entry, and every entry is valid
+unfoldable pub okField : Field → List ℕ → (stop at : ℕ) → Bool
+okField (single e) s stop at = leb (sizeOf e) (stop - at) && okItem e s at
+okField (counted e) s stop at = leb 2 (stop - at) && leb (sizeOf e * le 2 s at) (stop - (at + 2)) && okItems e (le 2 s at) s (at + 2)
+okField (listed e) s stop at = eqb ((stop - at) % sizeOf e) 0 && okItems e ((stop - at) / sizeOf e) s at
+
+-- the place after a field; none if the field does not fit or is not valid
+unfoldable pub past : Field → List ℕ → (stop at : ℕ) → Option ℕ
+past f s stop at = pick (okField f s stop at) (some (fieldEnd f s stop at)) none
+
+unfoldable pub readValue : Field → List ℕ → (stop at : ℕ) → Value
 readValue (single e) s stop at = item (readItem e s at)
 readValue (counted e) s stop at = group (readItems e (le 2 s at) s (at + 2))
 readValue (listed e) s stop at = rest (readItems e ((stop - at) / sizeOf e) s at)
@@ -114,14 +124,19 @@ unfoldable pub writeValues : List Value → List ℕ
 writeValues [] = []
 writeValues (v ∷ vs) = writeValue v ++ writeValues vs
 
--- the place after all fields, or 0
-unfoldable pub pastAll : List Field → List ℕ → ℕ → ℕ → ℕ
-pastAll [] s stop at = at
-pastAll (f ∷ fs) s stop at = pick (eqb at 0) 0 (pastAll fs s stop (past f s stop at))
+-- the place after all fields; none if one of them does not fit or is not valid
+unfoldable pub pastAll : List Field → List ℕ → (stop at : ℕ) → Option ℕ
+pastAll [] s stop at = some at
+pastAll (f ∷ fs) s stop at = elim (past f s stop at) [ none ↦ none | some next ↦ pastAll fs s stop next ]
 
-unfoldable pub readValues : List Field → List ℕ → ℕ → ℕ → List Value
+-- where all fields end, and what they hold, if they are valid
+unfoldable pub fieldsEnd : List Field → List ℕ → (stop at : ℕ) → ℕ
+fieldsEnd [] s stop at = at
+fieldsEnd (f ∷ fs) s stop at = fieldsEnd fs s stop (fieldEnd f s stop at)
+
+unfoldable pub readValues : List Field → List ℕ → (stop at : ℕ) → List Value
 readValues [] s stop at = []
-readValues (f ∷ fs) s stop at = readValue f s stop at ∷ readValues fs s stop (past f s stop at)
+readValues (f ∷ fs) s stop at = readValue f s stop at ∷ readValues fs s stop (fieldEnd f s stop at)
 
 -- ROWS by kind
 pub data Row : Type 0 where
@@ -159,9 +174,10 @@ pub data Start : Type 0 where
   nothing : Start
   starts : (body stop : ℕ) (children rest : Pattern) → Start
 
-unfoldable pub startIf : ℕ → ℕ → Pattern → Next → Start
+unfoldable pub startIf : (body : Option ℕ) (stop : ℕ) → Pattern → Next → Start
 startIf body stop p refused = nothing
-startIf body stop p (left q) = pick (eqb body 0) nothing (starts body stop p q)
+startIf none stop p (left q) = nothing
+startIf (some body) stop p (left q) = starts body stop p q
 
 unfoldable pub startRow : List ℕ → ℕ → ℕ → Pattern → Row → Start
 startRow s at stop q noRow = nothing
@@ -218,7 +234,7 @@ unfoldable mutual
   writeTrees (tcons t ts) = writeTree t ++ writeTrees ts
 
 unfoldable pub readNode : (ℕ → ℕ → Trees) → List ℕ → ℕ → ℕ → ℕ → List Field → Tree
-readNode f s at stop k fs = node at k (readValues fs s stop (at + 6)) (f (pastAll fs s stop (at + 6)) stop)
+readNode f s at stop k fs = node at k (readValues fs s stop (at + 6)) (f (fieldsEnd fs s stop (at + 6)) stop)
 
 -- the records from `at` to `end`; the first number bounds the calls
 unfoldable pub treesFrom : ℕ → List ℕ → ℕ → ℕ → Trees
@@ -234,7 +250,8 @@ treesFrom (suc n) s at end =
 unfoldable pub readRecords : List ℕ → ℕ → ℕ → Trees
 readRecords s at end = treesFrom (suc (end - at)) s at end
 
--- FIELDS OF A NODE, by position
+-- FIELDS OF A NODE, by position. A kind's row fixes the form of each of its fields, so one form is met at a position. What stands for the others (0,
+-- Void, none) would be written back as other bytes than were read (`NothingOverlooked`, `NothingOverlookedInPrograms`).
 abbrev itemOf : Value → Item
 itemOf (item i) = i
 itemOf (group is) = small 0
@@ -284,14 +301,19 @@ typeAt i vs = typeOf (itemAt i vs)
 abbrev pub optAt : ℕ → List Value → Option ℕ
 optAt i vs = optOf (itemAt i vs)
 
--- CHILDREN OF A NODE: what f makes of those of kinds lo to hi
+-- CHILDREN OF A NODE: what f makes of those of the kinds from `lo` to `hi`
 abbrev pub kindIn : Tree → ℕ
 kindIn (node at k vs ts) = k
 
-abbrev pub gather {ℓ} : {A : Type ℓ} → ℕ → ℕ → (Tree → A) → Trees → List A
+abbrev pub gather {ℓ} : {A : Type ℓ} → (lo hi : ℕ) → (Tree → A) → Trees → List A
 gather lo hi f tnil = []
 gather lo hi f (tcons t ts) = pick (leb lo (kindIn t)) (pick (leb (kindIn t) hi) (f t ∷ gather lo hi f ts) (gather lo hi f ts)) (gather lo hi f ts)
 
 abbrev pub treesOf {ℓ} : {A : Type ℓ} → (A → Tree) → List A → Trees → Trees
 treesOf f [] ts = ts
 treesOf f (a ∷ more) ts = tcons (f a) (treesOf f more ts)
+
+-- NOTHING IS OVERLOOKED by a way of checking, reading and writing sheets: a sheet that passes is, byte for byte, the writing of what is read
+-- from it. `NothingOverlooked` of ContractSheet and `NothingOverlookedInPrograms` of ProgramSheet say so of the two sheets.
+abbrev pub ReadsAll : {A : Type 0} → (List ℕ → Form) → (List ℕ → A) → (A → List ℕ) → Type 0
+ReadsAll check read write = (s : List ℕ) → Bytes s → check s ≡ Good → write (read s) ≡ s

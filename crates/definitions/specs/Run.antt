@@ -4,7 +4,7 @@ use mathlib.Core.List.{List, [], _∷_, _++_}
 use mathlib.Core.Option.{Option, none, some}
 use mathlib.Core.Bool.{Bool, true, false, _&&_}
 use lib.Dec.{eqb}
-use Rattle.definitions.specs.Ir.{IrType, Instruction, operands, localRead, localWritten, Terminator, InstrNode, BasicBlock, IrFunction, find, contains}
+use Rattle.definitions.specs.Ir.{IrType, operands, localRead, localWritten, Terminator, InstrNode, BasicBlock, IrFunction, find, contains}
 
 -- A pick: a word and a way.
 pub data Way : Type 0 where

@@ -1,6 +1,6 @@
 -- Signatures (the part of `sema.rs` that lowering leans on). Assumes nothing: these are definitions.
 use Prim.Native.Nat.{ℕ}
-use mathlib.Core.List.{List, [], _∷_}
+use mathlib.Core.List.{[], _∷_}
 use mathlib.Core.Option.{Option, none, some}
 use Rattle.definitions.specs.Names.{u64, bool, field, byName, lastNamed}
 use Rattle.definitions.specs.Ast.{Function, Contract}

@@ -2,7 +2,7 @@
 -- equal to `walkCall`.
 use Prim.Native.Nat.{ℕ}
 use mathlib.Core.List.{List}
-use mathlib.Core.Bool.{Bool, true, false}
+use mathlib.Core.Bool.{true, false}
 use lib.Dec.{eqb}
 use Rattle.definitions.specs.Result.{err, ok, _>>=_, _>>_, okOrElse}
 use Rattle.definitions.specs.Ast.{Exprs, enil, Contract}

@@ -1,7 +1,7 @@
 -- The code's answers in the words of the definitions. Assumes nothing: these are definitions.
 use Prim.Native.Nat.{ℕ, suc, _%_}
 use mathlib.Core.List.{List}
-use mathlib.Core.Option.{Option, none, some}
+use mathlib.Core.Option.{none, some}
 use Rattle.definitions.specs.Result.{err, ok, _>>=_, _>>_}
 use Rattle.definitions.specs.Ast.{BinOp, Contract}
 use Rattle.definitions.specs.Ir.{IrType, Instruction, binaryType}

@@ -1,13 +1,12 @@
 // What is called, and the call of it.
 ghost use mathlib.Core.Path.{_≡_};
-ghost use Prim.Native.Nat.{ℕ, suc, _+_, _%_, _≤_, _<_};
+ghost use Prim.Native.Nat.{_≤_};
 ghost use lib.ListN.{take};
-ghost use Rattle.definitions.specs.Ast.{Exprs};
 ghost use Rattle.definitions.specs.ContractSheet.{readContract};
 ghost use Rattle.definitions.specs.Ir as defs;
 ghost use Rattle.definitions.specs.Ir.{Instruction};
 ghost use Rattle.ir.specs.Types.{asType};
-ghost use Rattle.nodes.specs.Ready.{Checked, exprsFrom};
+ghost use Rattle.nodes.specs.Ready.{Checked};
 ghost use Rattle.walk.specs.Log.{logOf};
 ghost use Rattle.walk.specs.Exprs.{pushValue, walkUserCall};
 ghost use Rattle.definitions.specs.Result.{ok};

@@ -1,19 +1,16 @@
 // Expressions without expressions in them, and what is done with values.
 ghost use mathlib.Core.Path.{_≡_};
-ghost use Prim.Native.Nat.{ℕ, suc, _+_, _%_, _≤_};
-ghost use lib.ListN.{length};
+ghost use Prim.Native.Nat.{suc, _%_, _≤_};
 ghost use Rattle.definitions.specs.Result.{ok};
-ghost use Rattle.definitions.specs.Fields.{le};
 ghost use Rattle.definitions.specs.Ir as defs;
 ghost use Rattle.definitions.specs.Ir.{Instruction, binaryType};
-ghost use Rattle.definitions.specs.Lower.{Lowering, Value};
+ghost use Rattle.definitions.specs.Lower.{Value};
 ghost use Rattle.definitions.specs.ContractSheet.{readContract, opOf};
 ghost use Rattle.ir.specs.Types.{asType};
-ghost use Rattle.names.specs.Answers.{errorOf};
 ghost use Rattle.nodes.specs.Ready.{Checked};
 ghost use Rattle.names.specs.Entries.{entriesOf};
-ghost use Rattle.walk.specs.Log.{Log, logOf};
-ghost use Rattle.walk.specs.Exprs.{Walked, pushValue, walkIdent, walkStorageRead, walkField};
+ghost use Rattle.walk.specs.Log.{logOf};
+ghost use Rattle.walk.specs.Exprs.{pushValue, walkIdent, walkStorageRead, walkField};
 ghost use Rattle.exprs.specs.Exprs.{loweredIn, valuedIn, fieldOn, binaryOn};
 use crate::Lowered;
 use crate::Valued;
@@ -24,8 +21,6 @@ use names::Held;
 use names::LoweringError;
 use names::Offset;
 use names::Slot;
-use reader::read;
-use reader::read_u16;
 
 // An integer.
 pub(crate) fn lower_int(number: usize, value: ValueId, log: &mut [u8; 32768], to: usize) -> Lowered

@@ -1,8 +1,7 @@
 // Expressions into the log: `lower_expr`, `lower_expr_value` and `lower_call`, which call one another; the depth left falls.
 ghost use mathlib.Core.Path.{_≡_};
-ghost use Prim.Native.Nat.{ℕ, _≤_};
-ghost use lib.ListN.{length, take};
-ghost use Rattle.definitions.specs.ContractSheet.{readContract, exprsOf};
+ghost use Prim.Native.Nat.{_≤_};
+ghost use Rattle.definitions.specs.ContractSheet.{readContract};
 ghost use Rattle.definitions.specs.Grammar.{Class};
 ghost use Rattle.sheet.specs.Passed.{kindOf};
 ghost use Rattle.nodes.specs.Ready.{Checked, Ready, exprAt};

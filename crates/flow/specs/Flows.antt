@@ -1,6 +1,6 @@
 -- The code's state and answers in the words of the walk. Assumes nothing: these are definitions.
-use Prim.Native.Nat.{ℕ, suc, _/_, _%_, _+_, _≤_, _<_}
-use mathlib.Core.List.{List, [], _∷_, map}
+use Prim.Native.Nat.{ℕ, _/_, _%_, _+_, _≤_, _<_}
+use mathlib.Core.List.{List, _∷_, map}
 use mathlib.Core.Bool.{true}
 use lib.ListN.{take, set}
 use Rattle.definitions.specs.Result.{err, ok, _>>=_, _>>_}

@@ -2,7 +2,7 @@
 ghost use mathlib.Core.Path.{_≡_};
 ghost use mathlib.Core.List.{List};
 ghost use mathlib.Core.Option.{none, some};
-ghost use Prim.Native.Nat.{ℕ, suc, _+_, _%_, _≤_, _<_};
+ghost use Prim.Native.Nat.{ℕ, suc, _+_, _%_, _<_};
 ghost use lib.ListN.{length};
 ghost use Rattle.definitions.specs.Ir.{Terminator};
 ghost use Rattle.ir.specs.Types.{asType};
@@ -55,7 +55,7 @@ pub fn after(flow: Flow, v: ValueId, to: usize) -> Flow
     counted(flow, taken.counters, to)
 }
 
-// The state with the log's new place.
+// The state with this next value and the log's new place.
 pub fn at(flow: Flow, value: ValueId, to: usize) -> Flow
     ensures { λ r. ⌜ ((i : ℕ) (log types starts stops : List ℕ) → ctxIn i log types starts stops r ≡ withLog (logOf log (value .0) to) (ctxIn i log types starts stops flow)) ⌝ }
     ensures { λ r. ⌜ (Sound flow → Grown flow r) ⌝ }

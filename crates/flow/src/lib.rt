@@ -27,7 +27,7 @@ pub enum Made {
     Refused(LoweringError),
 }
 
-// After a statement: a Let declares a name (an entry of `crate::entries`).
+// After a statement: a Let declares a name (an entry of `names::entries`).
 pub enum Stepped {
     Next(Flow),
     Declared(Flow, u64),

@@ -1,5 +1,4 @@
 -- The code's types as the definitions' types. Assumes nothing: these are definitions.
-use Prim.Native.Nat.{ℕ}
 use Rattle.definitions.specs.Ir as defs
 use Rattle.ir.specs.declared.IrType.{IrType}
 use Rattle.ir.specs.declared.IrType.the-variants.{U64, Bool, Field, Struct, Void}

@@ -1,7 +1,7 @@
 // Names, ids, types and instruction kinds of the intermediate program (`ir/mod.rs`), as document 01 numbers them.
 ghost use mathlib.Core.Path.{_≡_};
-ghost use mathlib.Core.List.{List, [], _∷_};
-ghost use Prim.Native.Nat.{ℕ, _+_, _≤_, _<_};
+ghost use mathlib.Core.List.{[], _∷_};
+ghost use Prim.Native.Nat.{_≤_, _<_};
 ghost use Rattle.definitions.specs.Names.{empty, u64, bool, field, void, poseidon, verifyMerkleProof, msgSender, msgNonce, blockNumber};
 ghost use Rattle.definitions.specs.Records.{typeFrom};
 ghost use Rattle.ir.specs.Types.{asType};

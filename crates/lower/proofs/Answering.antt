@@ -1,30 +1,27 @@
 -- From the parts to the answer: the program's record, the sheet's checks, the output with its zeros, and demand 3. Assumes nothing.
 use mathlib.Core.Path.{_≡_, refl, sym, ap, _∙_, subst}
-use mathlib.Core.Bool.{Bool, true, false, _&&_}
 use mathlib.Core.List.{List, [], _∷_, _++_, append-assoc}
-use Prim.Native.Nat.{ℕ, zero, suc, _+_, _-_, _≤_, _<_}
+use Prim.Native.Nat.{ℕ, zero, suc, _-_, _≤_, _<_}
 use native.Mathlib.Omega.{arith}
 use borrow.Author.Tests.{le-leb, lt-leb}
 use lib.Dec.{leb}
 use lib.ListN.{length, take, replicate}
 use lib.Seq.{sets}
 use Rattle.definitions.specs.Fields.{Bytes}
-use Rattle.definitions.specs.Result.{Result, err, ok, check, mapErr}
+use Rattle.definitions.specs.Result.{Result, err, ok}
 use Rattle.definitions.specs.Ast.{Contract}
-use Rattle.definitions.specs.Ir.{IrFunction, IrProgram}
-use Rattle.definitions.specs.Lower.{LoweringError, Lowering, lowerFunctions, lowerContract, functionNames}
-use Rattle.definitions.specs.Records.{Good, Bad, Tree, Trees, tnil, tcons, treesOf, writeRecord, writeTree, writeTrees, writeValues}
-use Rattle.definitions.specs.ProgramSheet.{functionTree, functionNameTree, programTree, writeProgram}
+use Rattle.definitions.specs.Ir.{IrFunction}
+use Rattle.definitions.specs.Lower.{LoweringError, lowerFunctions, lowerContract, functionNames}
+use Rattle.definitions.specs.Records.{Good, Bad, Tree, Trees, tnil, treesOf, writeRecord, writeTree, writeTrees, writeValues}
+use Rattle.definitions.specs.ProgramSheet.{functionTree, functionNameTree, writeProgram}
 use Rattle.definitions.specs.ContractSheet.{refusal3, refusal4, readContract}
 use Rattle.definitions.specs.Answers as answers
 use Rattle.definitions.specs.Answers.{Refusal, refusal, lowerRefusal, checkContract, lowerSheet, lengthOf, outputOf, padded}
 use Rattle.definitions.specs.Demand3.{Demand3Of}
 use Rattle.definitions.proofs.Demand3.{demand3}
-use Rattle.names.specs.Answers.{errorOf}
-use Rattle.lower.specs.Whole.{Filled, programAnswer, Answered, answerOf, Holds, lowerRest, writtenBy, Finished}
+use Rattle.lower.specs.Whole.{programAnswer, Answered, answerOf, lowerRest, writtenBy, Finished}
 use Rattle.lower.specs.declared.Answer.{Answer}
 use Rattle.lower.specs.declared.Answer.the-variants as answer
-use Rattle.names.specs.declared.LoweringError as code
 use Rattle.lower.proofs.Fill.{then-zeros}
 
 -- THE PROGRAM'S RECORD
@@ -104,13 +101,13 @@ ok-inj e = ap number e
 err-is-ok : {x : Refusal} {n : ℕ} → _≡_ {A = Result Refusal ℕ} (err x) (ok n) → ⊥
 err-is-ok e = let z : _≡_ {A = ℕ} 0 1 = ap isOk e in omega arith
 
-pub demanded : (s : List ℕ) → Bytes s → (n : ℕ) (out : List ℕ) (r : Answer) → Answered (lowerSheet s n) n out r → (k : ℕ) → r ≡ answer.Accepted k → Demand3Of (take k (sets out (writtenBy (answerOf r)) (replicate (length out - writtenBy (answerOf r)) 0)))
+pub demanded : (s : List ℕ) → Bytes s → (n : ℕ) (out : List ℕ) (r : Answer) → Answered (lowerSheet s n) n out r → (k : ℕ) → r ≡ answer.Accepted k → Demand3Of s (take k (sets out (writtenBy (answerOf r)) (replicate (length out - writtenBy (answerOf r)) 0)))
 demanded s h n out r a k e = go (lowerSheet s n) refl a
   where
-    go : (w : answers.Answer) → lowerSheet s n ≡ w → Answered w n out r → Demand3Of (take k (sets out (writtenBy (answerOf r)) (replicate (length out - writtenBy (answerOf r)) 0)))
+    go : (w : answers.Answer) → lowerSheet s n ≡ w → Answered w n out r → Demand3Of s (take k (sets out (writtenBy (answerOf r)) (replicate (length out - writtenBy (answerOf r)) 0)))
     go (err x) q a = absurd (err-is-ok (sym (sym (ap answerOf e) ∙ a .is)))
     go (ok b) q a =
         let size : k ≡ length b = ok-inj (sym (ap answerOf e) ∙ a .is) in
         let out-is = zeros-behind (ok b) n out r a .output in
         let fits : length b ≤ n = rw (a .same-length) at (a .holds .0) in
-        subst Demand3Of (sym (ap (take k) out-is ∙ rw size (take-padded n b fits))) (demand3 s h n b q)
+        subst (Demand3Of s) (sym (ap (take k) out-is ∙ rw size (take-padded n b fits))) (demand3 s h n b q)

@@ -1,22 +1,20 @@
 -- Parts laid down one behind the other, the head in front of them, and the zeros behind. Assumes nothing.
-use mathlib.Core.Path.{_≡_, refl, sym, ap, _∙_, subst}
+use mathlib.Core.Path.{_≡_, refl, sym, ap, _∙_}
 use mathlib.Core.Bool.{Bool, true, false, _&&_}
 use mathlib.Core.List.{List, [], _∷_, _++_, append-assoc, append-nil}
 use Prim.Native.Nat.{ℕ, zero, suc, _+_, _-_, _≤_, _<_}
 use native.Mathlib.Omega.{arith}
 use native.Mathlib.Nat.{add-zero, sub-zero}
-use borrow.Author.Tests.{leb-true, leb-false, le-leb, lt-leb}
+use borrow.Author.Tests.{leb-true, leb-false, le-leb}
 use lib.Dec.{leb}
-use lib.ListN.{length, take, drop, replicate, length-append, length-take, length-replicate, take-append-drop}
+use lib.ListN.{length, take, drop, replicate, length-append, length-replicate}
 use lib.Seq.{sets, sets-eq, length-sets, take-at, drop-at, length-take-le}
 use Rattle.definitions.specs.Fields.{bytes}
-use Rattle.definitions.specs.Result.{err, ok, check}
-use Rattle.definitions.specs.Records.{pick, writeRecord}
-use Rattle.definitions.specs.Answers.{refusal, padded, lengthOf}
-use Rattle.definitions.specs.Answers as answers
+use Rattle.definitions.specs.Result.{ok}
+use Rattle.definitions.specs.Records.{writeRecord}
+use Rattle.definitions.specs.Answers.{padded}
 use Rattle.layout.specs.Laid.{roomOf, Laid}
-use Rattle.lower.specs.Whole.{Filled, programAnswer, Answered, answerOf, Holds}
-use Rattle.lower.specs.declared.Answer.{Answer}
+use Rattle.lower.specs.Whole.{Filled, programAnswer, Answered}
 use Rattle.lower.specs.declared.Answer.the-variants as answer
 
 -- THE ROOM

@@ -17,7 +17,7 @@ use Rattle.definitions.specs.Lower.{Lowering, lowerFunction, lowerFunctions}
 use Rattle.definitions.specs.Lower as lowering
 use Rattle.definitions.specs.Records.{Tree, tnil, readRecords, gather, treesOf, writeTree, writeTrees}
 use Rattle.definitions.specs.ProgramSheet.{functionTree}
-use Rattle.definitions.specs.ContractSheet.{functionOf, readContract, oneIf}
+use Rattle.definitions.specs.ContractSheet.{functionOf, readContract, Counts, oneIf}
 use Rattle.definitions.proofs.Sheets.Passed.{read-end}
 use Rattle.sheet.specs.Passed.{kindOf, stopOf}
 use Rattle.nodes.specs.Ready.{Checked, Ready, treeAt, functionAt, paramsFrom}
@@ -84,7 +84,7 @@ Left s at = gather 4 4 functionOf (readRecords s at (length s))
 pub record Along (s before : List ℕ) (after : List ℕ) (to i at : ℕ) : Type 0 where
   pub within : at ≤ length s
   pub tops : Tops s at
-  pub count : tops .functions ≡ i
+  pub count : tops .before .functions ≡ i
   pub gs : List IrFunction
   pub left : lowerFunctions (readContract s) 0 (readContract s .functions) ≡ (lowerFunctions (readContract s) i (Left s at) >>= λ hs. ok (gs ++ hs))
   pub filled : Filled (writeTrees (treesOf functionTree gs tnil)) before 6 after to
@@ -119,7 +119,7 @@ begins {s} before C =
     record {
       within = D .long;
       tops = D .tops;
-      count = D .none-before .2;
+      count = ap (λ (n : Counts). n .functions) (D .none-before);
       gs = [];
       left = ap (lowerFunctions (readContract s) 0) (D .functions) ∙ unchanged (lowerFunctions (readContract s) 0 (Left s 8));
       filled = nothing before 6;
@@ -144,14 +144,14 @@ module _ {s before after : List ℕ} {to i at : ℕ} (A : Along s before after t
     pub top : Top s at (A .tops)
     top = next-top (A .tops) l
 
-    counted : top .next .functions ≡ i + oneIf 4 (treeAt s at)
+    counted : top .next .before .functions ≡ i + oneIf 4 (treeAt s at)
     counted = top .counts TopKind.function ∙ ap (λ (n : ℕ). n + oneIf 4 (treeAt s at)) (A .count)
 
     -- a record of another kind
     pub passes : (kindOf s at ≡ 4 → ⊥) → Along s before after to i (stopOf s at)
     passes k =
         let n : Left s at ≡ Left s (stopOf s at) = ap (gather 4 4 functionOf) (top .read) ∙ gather-past 4 functionOf (treeAt s at) (readRecords s (stopOf s at) (length s)) k in
-        let w : top .next .functions ≡ i + 0 = rw (ne-eqb (kindOf s at) 4 k) at counted in
+        let w : top .next .before .functions ≡ i + 0 = rw (ne-eqb (kindOf s at) 4 k) at counted in
         record { within = top .inside; tops = top .next; count = omega arith; gs = A .gs; left = onward n; filled = A .filled }
 
     -- a function
@@ -160,7 +160,7 @@ module _ {s before after : List ℕ} {to i at : ℕ} (A : Along s before after t
       ready = top .ready k
 
       pub few : i < 64
-      few = let r : A .tops .functions < 64 = rw k at (top .room) in omega (arith, A .count)
+      few = let r : A .tops .before .functions < 64 = rw k at (top .room) in omega (arith, A .count)
 
       here : Left s at ≡ functionAt s at ∷ Left s (stopOf s at)
       here = ap (gather 4 4 functionOf) (top .read) ∙ gather-here 4 functionOf (treeAt s at) (readRecords s (stopOf s at) (length s)) k
@@ -170,7 +170,7 @@ module _ {s before after : List ℕ} {to i at : ℕ} (A : Along s before after t
         where
           go : FunctionPlaced (readContract s) i (functionAt s at) after to later (placed.To r) → Along s before later r (i + 1) (stopOf s at)
           go (g, (e, f)) =
-              let w : top .next .functions ≡ i + 1 = rw (eq-eqb (kindOf s at) 4 k) at counted in
+              let w : top .next .before .functions ≡ i + 1 = rw (eq-eqb (kindOf s at) 4 k) at counted in
               record {
                 within = top .inside;
                 tops = top .next;

@@ -1,9 +1,9 @@
 -- The parts of lowering that lead from the walk of each function to the answer. Untrusted, but for `answerOf`, which gives document
 -- 01's number and values for each answer.
-use Prim.Native.Nat.{ℕ, suc, _+_, _≤_, _<_}
+use Prim.Native.Nat.{ℕ, _+_, _≤_, _<_}
 use mathlib.Core.Path.{_≡_}
 use mathlib.Core.Bool.{false, _&&_}
-use mathlib.Core.List.{List, [], _∷_, _++_}
+use mathlib.Core.List.{List, [], _∷_}
 use lib.Dec.{leb}
 use lib.ListN.{length, take}
 use lib.Seq.{sets}
@@ -19,7 +19,7 @@ use Rattle.walk.specs.Stmts.{Ctx}
 use Rattle.names.specs.Entries.{entriesOf}
 use Rattle.names.specs.Answers.{errorOf}
 use Rattle.flow.specs.Flows.{ctxIn, Sound}
-use Rattle.layout.specs.Laid.{roomOf, Laid}
+use Rattle.layout.specs.Laid.{roomOf}
 use Rattle.flow.specs.declared.Step.{Step}
 use Rattle.flow.specs.declared.Step.the-variants as step
 use Rattle.lower.specs.declared.Begun.{Begun}

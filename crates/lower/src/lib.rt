@@ -8,7 +8,6 @@ ghost use Rattle.definitions.specs.ContractSheet.{readContract};
 ghost use Rattle.definitions.specs.Demand3.{Demand3Of};
 ghost use Rattle.definitions.specs.Grammar.{Class};
 ghost use Rattle.nodes.specs.Ready.{Checked, Ready, functionAt, paramsFrom};
-ghost use Rattle.sheet.specs.Passed.{kindOf};
 ghost use Rattle.walk.specs.Layout.{walkParams, walkFunction};
 ghost use Rattle.flow.specs.Flows.{ctxIn, stepIn, Sound};
 ghost use Rattle.layout.specs.Laid.{roomOf};
@@ -313,7 +312,7 @@ fn written(answer: Answer) -> usize
 pub fn lower(sheet: &[u8], out: &mut [u8]) -> Answer
     ensures { λ r. ⌜ answerOf r ≡ lengthOf (lowerSheet (now (sheet .entry)) (length (now (out .entry)))) ⌝ }
     ensures { λ r. ⌜ now (out .exit) ≡ outputOf (lowerSheet (now (sheet .entry)) (length (now (out .entry)))) (length (now (out .entry))) ⌝ }
-    ensures { λ r. ⌜ ((n : ℕ) → r ≡ answer.Accepted n → Demand3Of (take n (now (out .exit)))) ⌝ }
+    ensures { λ r. ⌜ ((n : ℕ) → r ≡ answer.Accepted n → Demand3Of (now (sheet .entry)) (take n (now (out .exit)))) ⌝ }
 {
     all_bytes(sheet);
     let answer = lower_sheet(sheet, out);

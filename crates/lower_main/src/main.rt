@@ -3,14 +3,16 @@
 // Anything over 32,768 bytes is answer 1, so what stands behind the buffer's 65,536 bytes changes nothing (`cut-lowered` of lines).
 // No contract can say which bytes are read or written, so `main` is proved only safe and ending. `lines::lower_line` has the contract on the
 // bytes: from the sheet in the buffer to the line in `text`.
-use libc::STDIN_FILENO;
+use console::Input;
 
 fn main() {
-    if !console::is_readable() {
+    if !console::has_args(0, b"lower_main < SHEET") {
         return;
     }
     let mut sheet = io::large_buffer();
-    let n = io::read_full(STDIN_FILENO, &mut sheet);
+    let Input::Read(n) = console::read(&mut sheet) else {
+        return;
+    };
     let mut out = [0u8; 32768];
     let mut text = [0u8; 98307];
     let k = lines::lower_line(&sheet[..n], &mut out, &mut text);

@@ -2,18 +2,21 @@
 // in order, then zeros. include/malovuneth.h declares `malovuneth_lower` and `malovuneth_verify`, a slice being a pointer and a length; the
 // other two are for the differential test.
 ghost use mathlib.Core.Path.{_≡_};
-ghost use lib.ListN.{length};
+ghost use lib.ListN.{getD, length, take};
 ghost use Rattle.definitions.specs.Answers.{checkContract, loweredNumbers, lowerSheet, numbersOf, outputOf, padded, refuseForm, verifySheet};
 ghost use Rattle.definitions.specs.ContractSheet.{refusal3};
+ghost use Rattle.definitions.specs.Demand3.{Demand3Of};
 
 // Lowers the bytes of a contract sheet. The output gets the program sheet and then zeros, or zeros; the numbers are 0 and the sheet's
-// length, or the refusal's.
+// length, or the refusal's. Where the first number is 0, demand 3 holds of as many bytes of the output as the second says.
 #[no_mangle]
 pub extern "C" fn malovuneth_lower(sheet: &[u8], out: &mut [u8], numbers: &mut [usize; 6])
     ensures { λ _. ⌜ now (numbers .exit) ≡ padded 6 (loweredNumbers (lowerSheet (now (sheet .entry)) (length (now (out .entry))))) ⌝ }
     ensures { λ _. ⌜ now (out .exit) ≡ outputOf (lowerSheet (now (sheet .entry)) (length (now (out .entry)))) (length (now (out .entry))) ⌝ }
+    ensures { λ _. ⌜ (getD (now (numbers .exit)) 0 0 ≡ 0 → Demand3Of (now (sheet .entry)) (take (getD (now (numbers .exit)) 1 0) (now (out .exit)))) ⌝ }
 {
-    let n = answers::lower_numbers(lower::lower(sheet, out));
+    let answer = lower::lower(sheet, out);
+    let n = answers::lower_numbers(answer);
     let list = n.list;
     *numbers = list;
 }

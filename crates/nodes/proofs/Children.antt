@@ -1,18 +1,17 @@
 -- The children of a record by the pattern of its kind: what stands first, and what is left after it. Assumes nothing.
 use mathlib.Core.Path.{_≡_, refl, ap, sym, _∙_, subst}
-use mathlib.Core.Bool.{false}
 use mathlib.Core.List.{List, [], _∷_, _++_, map}
+use mathlib.Core.Option.{some}
 use Prim.Native.Nat.{ℕ, suc, _+_, _-_, _<_, _≤_}
 use native.Mathlib.Omega.{arith}
-use lib.Dec.{leb}
 use lib.ListN.{length}
-use borrow.Author.Tests.{leb-true, leb-false}
+use borrow.Author.Tests.{leb-true}
 use Rattle.definitions.specs.Fields.{le}
 use Rattle.definitions.specs.Ast.{enil, econs, snil, scons}
 use Rattle.definitions.specs.Grammar.{Class, Entry, upTo, Field, single, Pattern, done, one, perhaps, many, rows}
-use Rattle.definitions.specs.Records.{mayEnd, small, Value, item, sizeOf, okItem, readItem, pastAll, readValues, row, rowIn, rowFields, Good, Tree, node, Trees, tnil, tcons, readRecords}
-use Rattle.definitions.specs.ContractSheet.{countTrees, either, over, oneIf, limitTree, limitTrees, exprOf, exprsOf, stmtOf, stmtsOf}
-use Rattle.definitions.proofs.Contracts.Limits.{either-no, shallow, tree-within}
+use Rattle.definitions.specs.Records.{mayEnd, small, Value, item, sizeOf, okItem, readItem, pastAll, fieldsEnd, readValues, row, rowIn, rowFields, Good, Tree, node, Trees, tnil, tcons, readRecords}
+use Rattle.definitions.specs.ContractSheet.{countTrees, Counts, noneBefore, andThis, Measured, limitTree, limitTrees, exprOf, exprsOf, stmtOf, stmtsOf}
+use Rattle.definitions.proofs.Contracts.Limits.{Within, measured, tree-within}
 use Rattle.definitions.proofs.Sheets.Passed.{Head, Fine, both-good, read-end}
 use Rattle.definitions.proofs.Sheets.Lines.{OfRows}
 use Rattle.definitions.proofs.Sheets.Singles.{itemsFrom, after, Valid, Starts, starts}
@@ -27,16 +26,14 @@ pub record Kids (p : Pattern) (s : List ℕ) (at end d : ℕ) : Type 0 where
   pub inside : end ≤ length s
   pub depth : ℕ
   pub sum : depth + d ≡ 41
-  pub storage : ℕ
-  pub structs : ℕ
-  pub functions : ℕ
-  pub limit : limitTrees (readRecords s at end) depth storage structs functions ≡ Good
+  pub before : Counts
+  pub limit : limitTrees (readRecords s at end) depth before ≡ Good
 
 pub all-of : {c : Class} {s : List ℕ} {at end d : ℕ} → Kids (many c done) s at end d → ReadyAll c s at end d
-all-of k = record { fine = k .fine; inside = k .inside; depth = k .depth; sum = k .sum; storage = k .storage; structs = k .structs; functions = k .functions; limit = k .limit }
+all-of k = record { fine = k .fine; inside = k .inside; depth = k .depth; sum = k .sum; before = k .before; limit = k .limit }
 
 pub kids-all : {c : Class} {s : List ℕ} {at end d : ℕ} → ReadyAll c s at end d → Kids (many c done) s at end d
-kids-all k = record { fine = k .fine; inside = k .inside; depth = k .depth; sum = k .sum; storage = k .storage; structs = k .structs; functions = k .functions; limit = k .limit }
+kids-all k = record { fine = k .fine; inside = k .inside; depth = k .depth; sum = k .sum; before = k .before; limit = k .limit }
 
 -- THE FIRST OF THEM: a record of the class c, and after it what follows p
 pub record First (c : Class) (p : Pattern) (s : List ℕ) (at end d : ℕ) : Type 0 where
@@ -57,7 +54,7 @@ first {c} {fs} {p} {q} {r} {s} {at} {end} {b} {stop} {d} k hd kids rest =
     let n : Node s at end = node-of hd kids rest in
     let e : stop ≡ stopOf s at = hd .stop-is in
     let i : readRecords s at end ≡ tcons (treeAt s at) (readRecords s (stopOf s at) end) = n .is in
-    let g = both-good _ _ (ap (λ (ts : Trees). limitTrees ts (k .depth) (k .storage) (k .structs) (k .functions)) (sym i) ∙ k .limit) in
+    let g = both-good _ _ (ap (λ (ts : Trees). limitTrees ts (k .depth) (k .before)) (sym i) ∙ k .limit) in
     record {
       ready = record {
         end = end;
@@ -66,9 +63,7 @@ first {c} {fs} {p} {q} {r} {s} {at} {end} {b} {stop} {d} k hd kids rest =
         inside = k .inside;
         depth = k .depth;
         sum = k .sum;
-        storage = k .storage;
-        structs = k .structs;
-        functions = k .functions;
+        before = k .before;
         limit = g .0;
       };
       is = i;
@@ -79,9 +74,7 @@ first {c} {fs} {p} {q} {r} {s} {at} {end} {b} {stop} {d} k hd kids rest =
         inside = k .inside;
         depth = k .depth;
         sum = k .sum;
-        storage = k .storage + oneIf 2 (treeAt s at);
-        structs = k .structs + oneIf 3 (treeAt s at);
-        functions = k .functions + oneIf 4 (treeAt s at);
+        before = andThis (treeAt s at) (k .before);
         limit = g .1;
       };
     }
@@ -95,7 +88,7 @@ one-first {c} {p} {s} {at} {end} {d} k = go (one-step c p (k .fine))
 -- what else may stand there
 stepped : {c : Class} {q r p : Pattern} {s : List ℕ} {at end d : ℕ} → Kids q s at end d → Found s at end c r p → Step c r p s at end d
 stepped k (here hd kids rest) = there (first k hd kids rest)
-stepped k (past f) = skipped (record { fine = f; inside = k .inside; depth = k .depth; sum = k .sum; storage = k .storage; structs = k .structs; functions = k .functions; limit = k .limit })
+stepped k (past f) = skipped (record { fine = f; inside = k .inside; depth = k .depth; sum = k .sum; before = k .before; limit = k .limit })
 
 pub many-next : {c : Class} {p : Pattern} {s : List ℕ} {at end d : ℕ} → Kids (many c p) s at end d → Step c (many c p) p s at end d
 many-next {c} {p} k = stepped k (many-step c p (k .fine))
@@ -164,16 +157,14 @@ nothing-at {c} {s} e h r =
       inside = h;
       depth = r .depth;
       sum = r .sum;
-      storage = 0;
-      structs = 0;
-      functions = 0;
-      limit = ap (λ (ts : Trees). limitTrees ts (r .depth) 0 0 0) z;
+      before = noneBefore;
+      limit = ap (λ (ts : Trees). limitTrees ts (r .depth) noneBefore) z;
     }
 
 -- INSIDE A RECORD: its limits, and its children
 pub not-over : {c : Class} {s : List ℕ} {at d : ℕ} (r : Ready c s at d)
-    → (over (kindOf s at) (valuesOf s at) (countTrees (childrenOf s at)) (r .depth) (r .storage) (r .structs) (r .functions) ≡ false) × (limitTrees (childrenOf s at) (suc (r .depth)) 0 0 0 ≡ Good)
-not-over {s = s} {at = at} r = tree-within at (kindOf s at) (valuesOf s at) (childrenOf s at) (r .depth) (r .storage) (r .structs) (r .functions) (r .limit)
+    → Within (measured (kindOf s at) (valuesOf s at) (childrenOf s at) (r .depth) (r .before)) × (limitTrees (childrenOf s at) (suc (r .depth)) noneBefore ≡ Good)
+not-over {s = s} {at = at} r = tree-within at (kindOf s at) (valuesOf s at) (childrenOf s at) (r .depth) (r .before) (r .limit)
 
 pub record Bounds (s : List ℕ) (at d : ℕ) : Type 0 where
   pub deep : 1 ≤ d
@@ -183,8 +174,7 @@ pub record Bounds (s : List ℕ) (at d : ℕ) : Type 0 where
 pub bounds : {c : Class} {s : List ℕ} {at d : ℕ} → Ready c s at d → Bounds s at d
 bounds {c} {s} {at} {d} r =
     let h = r .node-at .head in
-    let z : r .depth < 41 = shallow _ _ (r .depth) _ _ _ (kindOf s at) (not-over r .0) in
-    record { deep = omega (arith, r .sum); low = omega (arith, h .low, h .mid); high = omega (arith, h .high, r .inside) }
+    record { deep = omega (arith, r .sum, not-over r .0 .shallow); low = omega (arith, h .low, h .mid); high = omega (arith, h .high, r .inside) }
 
 -- its size may be read
 pub size-fits : {c : Class} {s : List ℕ} {at d : ℕ} → Ready c s at d → (at + 4 ≤ length s) × (4 ≤ 8)
@@ -198,9 +188,7 @@ kids-of {c} {s} {at} {d} r =
       inside = b .high;
       depth = suc (r .depth);
       sum = omega (arith, b .deep, r .sum);
-      storage = 0;
-      structs = 0;
-      functions = 0;
+      before = noneBefore;
       limit = not-over r .1;
     }
 
@@ -215,8 +203,8 @@ row-is n e = subst (λ (i : ℕ). rowIn i rows ≡ row (n .class) (n .fields) (n
 -- its first fields are the entries es, and fs are the others
 pub record Entries (es : List Entry) (fs : List Field) (s : List ℕ) (at : ℕ) : Type 0 where
   pub values : valuesOf s at ≡ itemsFrom es s at 6 ++ readValues fs s (stopOf s at) (at + after es 6)
-  pub body : bodyOf s at ≡ pastAll fs s (stopOf s at) (at + after es 6)
-  pub more : pastAll fs s (stopOf s at) (at + after es 6) ≡ 0 → ⊥
+  pub more : pastAll fs s (stopOf s at) (at + after es 6) ≡ some (bodyOf s at)
+  pub body : bodyOf s at ≡ fieldsEnd fs s (stopOf s at) (at + after es 6)
   pub valid : Valid es s at 6
   pub fits : at + after es 6 ≤ stopOf s at
 
@@ -225,7 +213,7 @@ unfolding valuesOf
 entries {s} {at} n es fs e q =
     let f : rowFields (rowIn (kindOf s at) rows) ≡ map single es ++ fs = ap (λ (i : ℕ). rowFields (rowIn i rows)) e ∙ q in
     let S : Starts es fs s at (bodyOf s at) (stopOf s at) = starts es fs (rw q at (head-of n e)) in
-    record { values = ap (λ (l : List Field). readValues l s (stopOf s at) (at + 6)) f ∙ S .values; body = S .body; more = S .more; valid = S .valid; fits = S .fits }
+    record { values = ap (λ (l : List Field). readValues l s (stopOf s at) (at + 6)) f ∙ S .values; more = S .more; body = S .body; valid = S .valid; fits = S .fits }
 
 -- its fields are the entries es, and its children follow p
 pub record Opened (es : List Entry) (p : Pattern) (s : List ℕ) (at k d : ℕ) : Type 0 where
@@ -235,7 +223,7 @@ pub record Opened (es : List Entry) (p : Pattern) (s : List ℕ) (at k d : ℕ) 
   pub kids : Kids p s (at + after es 6) (stopOf s at) (d - 1)
 
 pub opened : {a c : Class} {s : List ℕ} {at k d : ℕ} (es : List Entry) (p : Pattern) → rowIn k rows ≡ row a (map single es ++ []) p → Ready c s at d → kindOf s at ≡ k → Opened es p s at k d
-unfolding rowFields pastAll readValues
+unfolding rowFields fieldsEnd readValues
 opened {s = s} {at = at} {d = d} es p q r e =
     let n = r .node-at in
     let E : Entries es [] s at = entries n es [] e (ap rowFields q) in
@@ -277,11 +265,9 @@ plain {s = s} {at = at} {k = k} {d = d} p q r e =
 
 -- a kind of record that may have 16 children at the most
 abbrev pub Limited : ℕ → Type 0
-Limited k = (v : List Value) (m d a b c : ℕ) → over k v m d a b c ≡ either (leb 41 d) (leb 17 m)
+Limited k = (r : Measured) → Within r → r .kind ≡ k → r .children < 17
 
 pub few : {c : Class} {s : List ℕ} {at k d : ℕ} {v : List Value} {ts : Trees} → Limited k → Ready c s at d → treeAt s at ≡ node at k v ts → countTrees ts ≤ 16
 few {c} {s} {at} {k} {d} {v} {ts} l r e =
-    let g : limitTree (node at k v ts) (r .depth) (r .storage) (r .structs) (r .functions) ≡ Good = ap (λ (t : Tree). limitTree t (r .depth) (r .storage) (r .structs) (r .functions)) (sym e) ∙ r .limit in
-    let o = tree-within at k v ts (r .depth) (r .storage) (r .structs) (r .functions) g .0 in
-    let h : countTrees ts < 17 = leb-false 17 (countTrees ts) (either-no (leb 41 (r .depth)) (leb 17 (countTrees ts)) (sym (l v (countTrees ts) _ _ _ _) ∙ o) .1) in
-    omega arith
+    let g : limitTree (node at k v ts) (r .depth) (r .before) ≡ Good = ap (λ (t : Tree). limitTree t (r .depth) (r .before)) (sym e) ∙ r .limit in
+    omega (arith, l (measured k v ts (r .depth) (r .before)) (tree-within at k v ts (r .depth) (r .before) g .0) refl)

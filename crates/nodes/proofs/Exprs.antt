@@ -9,7 +9,7 @@ use Rattle.definitions.specs.Fields.{le}
 use Rattle.definitions.specs.Ast.{Expr, FieldInits}
 use Rattle.definitions.specs.Grammar.{Class, upTo, number, single, Field, Pattern, done, one, many, rows}
 use Rattle.definitions.specs.Records.{row, rowIn, small, item, readItem, sizeOf, Tree, node, Trees, tnil, tcons, readRecords}
-use Rattle.definitions.specs.ContractSheet.{opOf, exprOf, exprsOf, fieldInitsOf, countTrees, over}
+use Rattle.definitions.specs.ContractSheet.{opOf, exprOf, exprsOf, fieldInitsOf, countTrees}
 use Rattle.definitions.specs.Lower.{count}
 use Rattle.definitions.proofs.Sheets.Lines.{OfRows, Given, by-lines}
 use Rattle.definitions.proofs.Sheets.Singles.{itemsFrom, after}
@@ -179,5 +179,5 @@ abbrev pub CallAt : List ℕ → ℕ → ℕ → Type 0
 CallAt s at d = ArgsAt s at d (exprAt s at) (Expr.Call at (le 2 s (at + 6)) (exprsFrom s (at + 8) (stopOf s at)))
 
 pub call-at : {s : List ℕ} {at d : ℕ} → Ready Class.expression s at d → kindOf s at ≡ 37 → CallAt s at d
-unfolding rowIn rows exprOf over
-call-at r e = args-at exprOf r e refl (λ v m d a b c. refl)
+unfolding rowIn rows exprOf
+call-at r e = args-at exprOf r e refl (λ r w k. w .call-arguments k)

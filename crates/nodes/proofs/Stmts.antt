@@ -4,32 +4,19 @@ use mathlib.Core.Bool.{false}
 use mathlib.Core.List.{List, [], _∷_}
 use Prim.Native.Nat.{ℕ, _+_, _-_, _<_, _≤_}
 use native.Mathlib.Omega.{arith}
-use lib.Dec.{eqb, lit≤}
+use lib.Dec.{eqb}
 use lib.ListN.{length}
 use borrow.Author.Tests.{ne-eqb}
 use Rattle.definitions.specs.Fields.{le}
 use Rattle.definitions.specs.Ast.{Expr, Exprs, econs, absent, present, Stmt, OptStmts, noElse, elseDo}
 use Rattle.definitions.specs.Grammar.{Class, Field, Pattern, done, one, perhaps, many, rows}
 use Rattle.definitions.specs.Records.{rowIn, small, item, node, Trees, tcons, readRecords}
-use Rattle.definitions.specs.ContractSheet.{firstE, restE, exprsOf, noBlock, andBlock, optB, stmtFrom, stmtOf, blocksOf, over}
+use Rattle.definitions.specs.ContractSheet.{firstE, restE, exprsOf, noBlock, andBlock, optB, stmtFrom, stmtOf, blocksOf}
 use Rattle.definitions.proofs.Sheets.Lines.{OfRows, Given, by-lines}
 use Rattle.sheet.specs.Passed.{kindOf, stopOf}
 use Rattle.nodes.specs.Ready.{treeAt, exprAt, exprsFrom, stmtAt, stmtsFrom, Ready, ReadyAll}
 use Rattle.nodes.proofs.Children.{First, all-of, one-first, perhaps-next, last-first, nothing-left, at-end, bounds, by-row, Named, named, Plain, plain}
 use Rattle.nodes.proofs.Exprs.{expr-kinds, OneAt, ArgsAt, one-at, args-at}
-
--- WHICH KINDS
-abbrev Kinds : Class → ℕ → List Field → Pattern → Type 0
-Kinds c k fs p = (10 ≤ k) × (k ≤ 20)
-
-stmt-rows : OfRows Kinds Class.statement rows
-unfolding Given rows
-stmt-rows =
-    by-lines Kinds Class.statement rows (lit≤ tt, lit≤ tt) (lit≤ tt, lit≤ tt) (lit≤ tt, lit≤ tt) (lit≤ tt, lit≤ tt) (lit≤ tt, lit≤ tt) (lit≤ tt, lit≤ tt) (lit≤ tt, lit≤ tt) (lit≤ tt, lit≤ tt)
-    (lit≤ tt, lit≤ tt) (lit≤ tt, lit≤ tt) (lit≤ tt, lit≤ tt)
-
-pub stmt-kinds : {s : List ℕ} {at d : ℕ} → Ready Class.statement s at d → (10 ≤ kindOf s at) × (kindOf s at ≤ 20)
-stmt-kinds r = by-row Kinds stmt-rows r
 
 -- one of 10 to 19, or the last
 abbrev pub Last : ℕ → Type 0
@@ -118,8 +105,8 @@ return-at {s} {at} {d} r e =
 
 -- 19: Emit, with at most 16 expressions
 pub emit-at : {s : List ℕ} {at d : ℕ} → Ready Class.statement s at d → kindOf s at ≡ 19 → ArgsAt s at d (stmtAt s at) (Stmt.Emit at (le 2 s (at + 6)) (exprsFrom s (at + 8) (stopOf s at)))
-unfolding rowIn rows stmtOf over
-emit-at r e = args-at stmtOf r e refl (λ v m d a b c. refl)
+unfolding rowIn rows stmtOf
+emit-at r e = args-at stmtOf r e refl (λ r w k. w .emit-arguments k)
 
 -- BLOCKS among a statement's children: an expression is none; a block has its place and its statements
 abbrev IsBlock : Class → ℕ → List Field → Pattern → Type 0

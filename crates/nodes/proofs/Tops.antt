@@ -1,8 +1,9 @@
 -- The top records of a contract sheet that passed 3 and 4: the contract, the walk over the storage fields, structs and functions in it,
 -- how many there are of each, and what stands in a struct and in a function. Assumes nothing.
 use mathlib.Core.Path.{_≡_, refl, ap, sym, _∙_, subst}
-use mathlib.Core.Bool.{Bool, true, false}
+use mathlib.Core.Bool.{true}
 use mathlib.Core.List.{List, [], _∷_, _++_, map}
+use mathlib.Core.Option.{some}
 use Prim.Native.Nat.{ℕ, zero, suc, _+_, _-_, _*_, _/_, _%_, _≤_, _<_}
 use native.Mathlib.Nat.{div-add-mod'}
 use native.Mathlib.Omega.{arith}
@@ -13,10 +14,11 @@ use Rattle.definitions.specs.All.{All, anil, acons}
 use Rattle.definitions.specs.Fields.{le}
 use Rattle.definitions.specs.Ast.{Param}
 use Rattle.definitions.specs.Grammar.{Class, classNo, Entry, upTo, optional, nameAndType, Field, single, counted, listed, Pattern, done, one, many, rows}
-use Rattle.definitions.specs.Records.{pick, Value, item, group, rest, okItem, okItems, readItem, readItems, readValue, readValues, sizeOf, past, pastAll, optFrom, row, rowIn, rowFields, Tree, node, Trees, tnil, tcons, readRecords, Good, checkRecords, numAt, optAt, itemsAt, gather}
-use Rattle.definitions.specs.ContractSheet.{paramOf, paramsAt, storageOf, structOf, functionOf, contractOf, readContract, refusal3, refusal4, countTrees, oneIf, limitTree, limitTrees}
-use Rattle.definitions.proofs.Contracts.Limits.{TopKind, storage, struct, function, mostOf, countOf, count-next, room-for, fields-few, params-few, tree-within, within}
-use Rattle.definitions.proofs.Sheets.Passed.{Head, Fine, fine, both-good, read-end}
+use Rattle.definitions.specs.Records.{Value, item, group, rest, okItem, okItems, readItem, readItems, readValue, readValues, sizeOf, fieldEnd, okField, pastAll, fieldsEnd, optFrom, row, rowIn, rowFields, Tree, node, Trees, tnil, tcons, readRecords, Good, checkRecords, numAt, optAt, itemsAt, gather}
+use Rattle.definitions.specs.ContractSheet.{paramOf, paramsAt, storageOf, structOf, functionOf, contractOf, readContract, refusal3, refusal4, Counts, noneBefore, oneIf, limitTree, limitTrees}
+use Rattle.definitions.proofs.Contracts.Limits.{TopKind, storage, struct, function, mostOf, countOf, count-next, room-for, tree-within, within}
+use Rattle.definitions.proofs.Sheets.Passed.{both-true, first-past, Head, Fine, fine, both-good, read-end}
+use Rattle.definitions.proofs.Sheets.Reads.{items-count}
 use Rattle.definitions.proofs.Sheets.Lines.{OfRows, Given, by-lines}
 use Rattle.definitions.proofs.Sheets.Singles.{itemsFrom, after as afterAll, Valid, Counted, counted-field}
 use Rattle.definitions.proofs.Sheets.Steps.{Step, here, past as passed-over, many-step, One, this, one-step, done-ends}
@@ -97,10 +99,8 @@ pub record Tops (s : List ℕ) (at : ℕ) : Type 0 where
   each : All TopRow classes
   rising : Rising classes
   pub fine : Fine s at (length s) (topPattern classes)
-  pub storage : ℕ
-  pub structs : ℕ
-  pub functions : ℕ
-  pub limit : limitTrees (readRecords s at (length s)) 2 storage structs functions ≡ Good
+  pub before : Counts
+  pub limit : limitTrees (readRecords s at (length s)) 2 before ≡ Good
 
 -- the record at `at`, and what is left after it
 pub record Top (s : List ℕ) (at : ℕ) (T : Tops s at) : Type 0 where
@@ -111,11 +111,11 @@ pub record Top (s : List ℕ) (at : ℕ) (T : Tops s at) : Type 0 where
   pub small : le 2 s (at + 6) ≤ 65534
   pub ready : {j : ℕ} → kindOf s at ≡ j → Ready (topClass j) s at 39
   pub read : readRecords s at (length s) ≡ tcons (treeAt s at) (readRecords s (stopOf s at) (length s))
-  pub room : countOf (kindOf s at) (T .storage) (T .structs) (T .functions) < mostOf (kindOf s at)
+  pub room : countOf (kindOf s at) (T .before) < mostOf (kindOf s at)
   pub next : Tops s (stopOf s at)
   pub over-here : (k : ℕ) → Over k (T .classes) → k < kindOf s at
   pub over-next : (k : ℕ) → k < kindOf s at → Over k (next .classes)
-  pub counts : {k : ℕ} → TopKind k → countOf k (next .storage) (next .structs) (next .functions) ≡ countOf k (T .storage) (T .structs) (T .functions) + oneIf k (treeAt s at)
+  pub counts : {k : ℕ} → TopKind k → countOf k (next .before) ≡ countOf k (T .before) + oneIf k (treeAt s at)
 
 pub next-top : {s : List ℕ} {at : ℕ} (T : Tops s at) → at < length s → Top s at T
 unfolding limitTree
@@ -141,21 +141,20 @@ next-top {s} {at} T l = go (T .classes) (T .each) (T .rising) (λ k o. o) (T .fi
         let x : row c fs q ≡ row (n .class) (n .fields) (n .pattern) = sym (hd .is) ∙ n .head .is in
         let y : n .class ≡ c = cc in
         let N : Named s at = top-named n k (R .kind) in
-        let g = both-good _ _ (subst (λ (ts : Trees). limitTrees ts 2 (T .storage) (T .structs) (T .functions) ≡ Good) (n .is) (T .limit)) in
-        let o = tree-within at (kindOf s at) (valuesOf s at) (childrenOf s at) 2 (T .storage) (T .structs) (T .functions) (g .0) .0 in
+        let g = both-good _ _ (subst (λ (ts : Trees). limitTrees ts 2 (T .before) ≡ Good) (n .is) (T .limit)) in
         record {
           kind = K;
           long = N .long;
           inside = n .head .high;
           name = N .is;
           small = N .small;
-          ready = λ {j} e. record { end = length s; node-at = n; class-is = y ∙ (sym (R .is) ∙ ap topClass (sym k ∙ e)); inside = omega arith; depth = 2; sum = refl; storage = T .storage; structs = T .structs; functions = T .functions; limit = g .0 };
+          ready = λ {j} e. record { end = length s; node-at = n; class-is = y ∙ (sym (R .is) ∙ ap topClass (sym k ∙ e)); inside = omega arith; depth = 2; sum = refl; before = T .before; limit = g .0 };
           read = n .is;
-          room = room-for (valuesOf s at) (countTrees (childrenOf s at)) 2 (T .storage) (T .structs) (T .functions) K o;
-          next = record { classes = c ∷ cs; each = Rs; rising = u; fine = rw (hd .stop-is) at more; storage = _; structs = _; functions = _; limit = g .1 };
+          room = room-for K (tree-within at (kindOf s at) (valuesOf s at) (childrenOf s at) 2 (T .before) (g .0) .0) refl;
+          next = record { classes = c ∷ cs; each = Rs; rising = u; fine = rw (hd .stop-is) at more; before = _; limit = g .1 };
           over-here = λ j o. subst (λ (x : ℕ). j < x) (sym k) (first-over (among j o));
           over-next = λ j h. u .0 j (subst (λ (x : ℕ). j < x) k h);
-          counts = λ J. count-next (treeAt s at) (T .storage) (T .structs) (T .functions) J;
+          counts = λ J. count-next (treeAt s at) (T .before) J;
         }
 
     go : (cs : List Class) → All TopRow cs → Rising cs → Among cs → Fine s at (length s) (topPattern cs) → Top s at T
@@ -175,13 +174,13 @@ pub record ContractAt (s : List ℕ) : Type 0 where
   pub ready : Ready Class.contract s 0 40
   pub children : childrenOf s 0 ≡ readRecords s 8 (length s)
   pub tops : Tops s 8
-  pub none-before : (tops .storage ≡ 0) × (tops .structs ≡ 0) × (tops .functions ≡ 0)
+  pub none-before : tops .before ≡ noneBefore
   pub storage : readContract s .storage ≡ gather 2 2 storageOf (readRecords s 8 (length s))
   pub structs : readContract s .structs ≡ gather 3 3 structOf (readRecords s 8 (length s))
   pub functions : readContract s .functions ≡ gather 4 4 functionOf (readRecords s 8 (length s))
 
 pub contract-at : {s : List ℕ} → Checked s → ContractAt s
-unfolding refusal3 refusal4 checkRecords readContract contractOf limitTree rows rowIn rowFields pastAll itemsFrom afterAll sizeOf
+unfolding refusal3 refusal4 checkRecords readContract contractOf limitTree rows rowIn rowFields fieldsEnd itemsFrom afterAll sizeOf
 contract-at {s} C = go (one-step Class.contract done f)
   where
     f : Fine s 0 (length s) (one Class.contract done)
@@ -199,17 +198,17 @@ contract-at {s} C = go (one-step Class.contract done f)
         let l : readRecords s (length s) (length s) ≡ tnil = read-end s (length s) in
         let h : childrenOf s 0 ≡ readRecords s 8 (length s) = rw (w, z) in
         let i : readRecords s 0 (length s) ≡ tcons (node 0 (kindOf s 0) (valuesOf s 0) (readRecords s 8 (length s))) (readRecords s (stopOf s 0) (length s)) = n .is ∙ ap (λ (ts : Trees). tcons (node 0 (kindOf s 0) (valuesOf s 0) ts) (readRecords s (stopOf s 0) (length s))) h in
-        let g = both-good _ _ (subst (λ (ts : Trees). limitTrees ts 1 0 0 0 ≡ Good) (n .is) (C .limits)) in
-        let m = tree-within 0 (kindOf s 0) (valuesOf s 0) (childrenOf s 0) 1 0 0 0 (g .0) .1 in
+        let g = both-good _ _ (subst (λ (ts : Trees). limitTrees ts 1 noneBefore ≡ Good) (n .is) (C .limits)) in
+        let m = tree-within 0 (kindOf s 0) (valuesOf s 0) (childrenOf s 0) 1 noneBefore (g .0) .1 in
         record {
           long = omega (arith, w, z, n .head .mid);
           kind = k;
           body = w;
           stop = z;
-          ready = record { end = length s; node-at = n; class-is = y; inside = omega arith; depth = 1; sum = refl; storage = 0; structs = 0; functions = 0; limit = g .0 };
+          ready = record { end = length s; node-at = n; class-is = y; inside = omega arith; depth = 1; sum = refl; before = noneBefore; limit = g .0 };
           children = h;
-          tops = record { classes = topClasses; each = top-rows; rising = top-rising; fine = rw (w, z, p) at (n .kids); storage = 0; structs = 0; functions = 0; limit = subst (λ (ts : Trees). limitTrees ts 2 0 0 0 ≡ Good) h m };
-          none-before = (refl, refl, refl);
+          tops = record { classes = topClasses; each = top-rows; rising = top-rising; fine = rw (w, z, p) at (n .kids); before = noneBefore; limit = subst (λ (ts : Trees). limitTrees ts 2 noneBefore ≡ Good) h m };
+          none-before = refl;
           storage = ap (λ (ts : Trees). contractOf ts .storage) i;
           structs = ap (λ (ts : Trees). contractOf ts .structs) i;
           functions = ap (λ (ts : Trees). contractOf ts .functions) i;
@@ -219,11 +218,10 @@ contract-at {s} C = go (one-step Class.contract done f)
 pub at-most : {s : List ℕ} {A : Type 0} {k : ℕ} (f : Tree → A) → Checked s → TopKind k → length (gather k k f (readRecords s 8 (length s))) ≤ mostOf k
 at-most {s} {A} {k} f C K =
     let D : ContractAt s = contract-at C in
-    let n = D .none-before in
-    let e : limitTrees (readRecords s 8 (length s)) 2 0 0 0 ≡ Good = rw (n .0, n .1, n .2) at (D .tops .limit) in
-    omega (arith, within f (readRecords s 8 (length s)) 2 0 0 0 K e (omega (arith, zero-count K)), zero-count K)
+    let e : limitTrees (readRecords s 8 (length s)) 2 noneBefore ≡ Good = rw (D .none-before) at (D .tops .limit) in
+    omega (arith, within f (readRecords s 8 (length s)) 2 noneBefore K e (omega (arith, zero-count K)), zero-count K)
   where
-    zero-count : {j : ℕ} → TopKind j → countOf j 0 0 0 ≡ 0
+    zero-count : {j : ℕ} → TopKind j → countOf j noneBefore ≡ 0
     zero-count storage = refl
     zero-count struct = refl
     zero-count function = refl
@@ -237,10 +235,6 @@ pairs-are (suc n) s at = ap (λ (ps : List Param). record { name = le 2 s at; ty
 abbrev pub SmallParam : Param → Type 0
 SmallParam p = (p .name ≤ 65534) × (p .ty ≤ 65534)
 
-both-true : (x y : Bool) → pick x y false ≡ true → (x ≡ true) × (y ≡ true)
-both-true true y e = (refl, e)
-both-true false y e = absurd (let z : _≡_ {A = ℕ} 0 1 = cc in omega arith)
-
 pairs-small : (n : ℕ) (s : List ℕ) (at : ℕ) → okItems nameAndType n s at ≡ true → All SmallParam (paramsFrom s at n)
 unfolding okItems okItem sizeOf paramsFrom
 pairs-small zero s at e = anil
@@ -248,11 +242,6 @@ pairs-small (suc n) s at e =
     let a = both-true (okItem nameAndType s at) (okItems nameAndType n s (at + 4)) e in
     let b = both-true (leb (le 2 s at) 65534) (leb (le 2 s (at + 2)) 65534) (a .0) in
     acons (leb-true _ _ (b .0), leb-true _ _ (b .1)) (pairs-small n s (at + 4) (a .1))
-
-items-length : (e : Entry) (n : ℕ) (s : List ℕ) (at : ℕ) → length (readItems e n s at) ≡ n
-unfolding readItems
-items-length e zero s at = refl
-items-length e (suc n) s at = ap suc (items-length e n s (at + sizeOf e))
 
 -- A STRUCT: n fields from `at + 8` to its end
 pub record StructAt (s : List ℕ) (at n : ℕ) : Type 0 where
@@ -265,16 +254,9 @@ pub record StructAt (s : List ℕ) (at n : ℕ) : Type 0 where
   pub small-fields : All SmallParam (paramsFrom s (at + 8) n)
 
 -- the whole rest is entries
-listed-rest : (s : List ℕ) (stop at : ℕ) → (pastAll (listed nameAndType ∷ []) s stop at ≡ 0 → ⊥) → ((stop - at) % 4 ≡ 0) × (okItems nameAndType ((stop - at) / 4) s at ≡ true)
-unfolding pastAll past sizeOf
-listed-rest s stop at h = go (eqb at 0) (eqb ((stop - at) % 4) 0) refl (okItems nameAndType ((stop - at) / 4) s at) refl h
-  where
-    go : (x y : Bool) → eqb ((stop - at) % 4) 0 ≡ y → (z : Bool) → okItems nameAndType ((stop - at) / 4) s at ≡ z → (pick x 0 (pick y (pick z stop 0) 0) ≡ 0 → ⊥)
-        → ((stop - at) % 4 ≡ 0) × (okItems nameAndType ((stop - at) / 4) s at ≡ true)
-    go true y p z q k = absurd (k refl)
-    go false false p z q k = absurd (k refl)
-    go false true p false q k = absurd (k refl)
-    go false true p true q k = (eqb-true _ _ p, q)
+listed-rest : {b : ℕ} (s : List ℕ) (stop at : ℕ) → pastAll (listed nameAndType ∷ []) s stop at ≡ some b → ((stop - at) % 4 ≡ 0) × (okItems nameAndType ((stop - at) / 4) s at ≡ true)
+unfolding okField sizeOf
+listed-rest s stop at h = let a = both-true (eqb ((stop - at) % 4) 0) _ (first-past (listed nameAndType) [] s stop at h .0) in (eqb-true _ _ (a .0), a .1)
 
 pub struct-at : {s : List ℕ} {at d : ℕ} → Ready Class.struct s at d → (n : ℕ) × StructAt s at n
 unfolding rows rowIn rowFields readValues readValue itemsFrom readItem afterAll sizeOf
@@ -284,8 +266,7 @@ struct-at {s} {at} R =
     let E : Entries (upTo 65534 ∷ []) (listed nameAndType ∷ []) s at = entries n (upTo 65534 ∷ []) (listed nameAndType ∷ []) k refl in
     let m : ℕ = (stopOf s at - (at + 8)) / 4 in
     let v : valuesOf s at ≡ item (readItem (upTo 65534) s (at + 6)) ∷ rest (readItems nameAndType m s (at + 8)) ∷ [] = E .values in
-    let i : length (itemsAt 1 (valuesOf s at)) ≤ 64 = fields-few (valuesOf s at) _ (R .depth) _ _ _ (rw k at (not-over R .0)) in
-    let j : length (itemsAt 1 (valuesOf s at)) ≡ m = ap (λ (x : List Value). length (itemsAt 1 x)) v ∙ items-length nameAndType m s (at + 8) in
+    let j : length (itemsAt 1 (valuesOf s at)) ≡ m = ap (λ (x : List Value). length (itemsAt 1 x)) v ∙ items-count nameAndType m s (at + 8) in
     let l : at + 8 ≤ stopOf s at = E .fits in
     let y = listed-rest s (stopOf s at) (at + 8) (E .more) in
     let z : (stopOf s at - (at + 8)) % 4 ≡ 0 = y .0 in (
@@ -294,7 +275,7 @@ struct-at {s} {at} R =
         kind = k;
         inside = omega (arith, n .head .high, R .inside);
         ends = omega (arith, div-add-mod' (stopOf s at - (at + 8)) 4);
-        few = omega arith;
+        few = omega (arith, not-over R .0 .struct-fields k);
         name = ap (numAt 0) v;
         fields = ap (paramsAt 1) v ∙ pairs-are m s (at + 8);
         small-fields = pairs-small m s (at + 8) (y .1);
@@ -320,19 +301,18 @@ pub record FunctionAt (s : List ℕ) (at d : ℕ) : Type 0 where
   pub statements : ReadyAll Class.statement s (bodyFrom s at) (stopOf s at) (d - 1)
 
 pub function-at : {s : List ℕ} {at d : ℕ} → Ready Class.function s at d → FunctionAt s at d
-unfolding rows rowIn rowFields readValues readValue itemsFrom readItem afterAll sizeOf pastAll functionOf Valid okItem
+unfolding rows rowIn rowFields readValues readValue itemsFrom readItem afterAll sizeOf fieldEnd fieldsEnd functionOf Valid okItem
 function-at {s} {at} {d} R =
     let n = R .node-at in
     let k : kindOf s at ≡ 4 = by-row Numbered function-kind R in
     let es : List Entry = upTo 65534 ∷ optional ∷ upTo 1 ∷ [] in
     let E : Entries es (counted nameAndType ∷ []) s at = entries n es (counted nameAndType ∷ []) k refl in
-    let C : Counted nameAndType [] s (stopOf s at) (at + 12) = counted-field nameAndType [] s (stopOf s at) (at + 12) (E .more) in
+    let C : Counted nameAndType [] s (stopOf s at) (at + 12) (bodyOf s at) = counted-field nameAndType [] s (stopOf s at) (at + 12) (E .more) in
     let m : ℕ = le 2 s (at + 12) in
     let e : at + 12 + 2 ≡ at + 14 = omega arith in
-    let v : valuesOf s at ≡ itemsFrom es s at 6 ++ (group (readItems nameAndType m s (at + 14)) ∷ []) = E .values ∙ (ap (λ (x : List Value). itemsFrom es s at 6 ++ x) (C .values ∙ ap (λ (x : ℕ). group (readItems nameAndType m s x) ∷ []) e)) in
-    let w : bodyOf s at ≡ bodyFrom s at = E .body ∙ (C .past ∙ ap (λ (x : ℕ). x + 4 * m) e) in
-    let i : length (itemsAt 3 (valuesOf s at)) ≤ 16 = params-few (valuesOf s at) _ (R .depth) _ _ _ (rw k at (not-over R .0)) in
-    let j : length (itemsAt 3 (valuesOf s at)) ≡ m = ap (λ (x : List Value). length (itemsAt 3 x)) v ∙ items-length nameAndType m s (at + 14) in
+    let v : valuesOf s at ≡ itemsFrom es s at 6 ++ (group (readItems nameAndType m s (at + 14)) ∷ []) = E .values ∙ ap (λ (x : ℕ). itemsFrom es s at 6 ++ (group (readItems nameAndType m s x) ∷ [])) e in
+    let w : bodyOf s at ≡ bodyFrom s at = E .body ∙ ap (λ (x : ℕ). x + 4 * m) e in
+    let j : length (itemsAt 3 (valuesOf s at)) ≡ m = ap (λ (x : List Value). length (itemsAt 3 x)) v ∙ items-count nameAndType m s (at + 14) in
     let r : row Class.function (single (upTo 65534) ∷ single optional ∷ single (upTo 1) ∷ counted nameAndType ∷ []) (many Class.statement done) ≡ row (n .class) (n .fields) (n .pattern) = row-is n k in
     let p : n .pattern ≡ many Class.statement done = cc in
     record {
@@ -340,7 +320,7 @@ function-at {s} {at} {d} R =
       inside = omega (arith, n .head .high, R .inside);
       fits = omega (arith, w, n .head .mid);
       body-is = w;
-      few = omega arith;
+      few = omega (arith, not-over R .0 .parameters k);
       small = leb-true _ _ (E .valid .0);
       name = ap (numAt 0) v;
       returnType = ap (optAt 1) v;

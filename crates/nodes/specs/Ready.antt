@@ -1,17 +1,17 @@
 -- The records of a contract sheet that passed refusals 3 and 4, by their places: what the functions of lowering ask of their caller.
 -- Assumes nothing: these are definitions.
-use Prim.Native.Nat.{ℕ, zero, suc, _+_, _<_, _≤_}
+use Prim.Native.Nat.{ℕ, zero, suc, _+_, _≤_}
 use mathlib.Core.Path.{_≡_}
 use mathlib.Core.List.{List, [], _∷_}
 use lib.Dec.{eqb}
 use lib.ListN.{length}
 use Rattle.definitions.specs.Fields.{le}
-use Rattle.definitions.specs.Ast.{Expr, Exprs, Stmt, Stmts, Param, Function, Contract}
+use Rattle.definitions.specs.Ast.{Expr, Exprs, Stmt, Stmts, Param, Function}
 use Rattle.definitions.specs.Grammar.{Class, many, done}
-use Rattle.definitions.specs.Records.{pick, Tree, node, Trees, readRecords, Good}
-use Rattle.definitions.specs.ContractSheet.{refusal3, refusal4, limitTree, limitTrees, exprOf, exprsOf, stmtOf, stmtsOf, functionOf, readContract}
+use Rattle.definitions.specs.Records.{pick, Tree, node, readRecords, Good}
+use Rattle.definitions.specs.ContractSheet.{refusal3, refusal4, Counts, limitTree, limitTrees, exprOf, exprsOf, stmtOf, stmtsOf, functionOf}
 use Rattle.definitions.proofs.Sheets.Passed.{Fine}
-use Rattle.sheet.specs.Passed.{kindOf, stopOf, bodyOf, valuesOf, childrenOf}
+use Rattle.sheet.specs.Passed.{kindOf, valuesOf, childrenOf}
 use Rattle.sheet.proofs.Nodes.{Node}
 
 -- the record at a place, with all that is in it
@@ -50,10 +50,8 @@ pub record Ready (c : Class) (s : List ℕ) (at d : ℕ) : Type 0 where
   pub inside : end ≤ length s
   pub depth : ℕ
   pub sum : depth + d ≡ 41
-  pub storage : ℕ
-  pub structs : ℕ
-  pub functions : ℕ
-  pub limit : limitTree (treeAt s at) depth storage structs functions ≡ Good
+  pub before : Counts
+  pub limit : limitTree (treeAt s at) depth before ≡ Good
 
 -- records of the class c stand from `at` to `end`, at the depth 41 less d
 pub record ReadyAll (c : Class) (s : List ℕ) (at end d : ℕ) : Type 0 where
@@ -61,10 +59,8 @@ pub record ReadyAll (c : Class) (s : List ℕ) (at end d : ℕ) : Type 0 where
   pub inside : end ≤ length s
   pub depth : ℕ
   pub sum : depth + d ≡ 41
-  pub storage : ℕ
-  pub structs : ℕ
-  pub functions : ℕ
-  pub limit : limitTrees (readRecords s at end) depth storage structs functions ≡ Good
+  pub before : Counts
+  pub limit : limitTrees (readRecords s at end) depth before ≡ Good
 
 -- a contract sheet of at most 32,768 bytes that passed 3 and 4
 pub record Checked (s : List ℕ) : Type 0 where

@@ -1,5 +1,5 @@
 -- What every read of a little-endian number shares, over its width n. Assumes nothing.
-use mathlib.Core.Path.{_≡_, refl, ap, sym, _∙_}
+use mathlib.Core.Path.{_≡_}
 use mathlib.Core.List.{List}
 use Prim.Native.Nat.{ℕ, zero, suc, _+_, _-_, _*_, _^_, _≤_, _<_}
 use native.Mathlib.Nat.{pow-suc, pow-le-pow-right, add-zero, sub-self, sub-zero}

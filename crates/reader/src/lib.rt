@@ -1,6 +1,6 @@
 // Numbers of n bytes in a slice, little-endian. Every law is shown for any n; callers use 2, 4 and 8.
 ghost use mathlib.Core.Path.{_≡_};
-ghost use Prim.Native.Nat.{ℕ, _+_, _^_, _≤_, _<_};
+ghost use Prim.Native.Nat.{_+_, _^_, _≤_, _<_};
 ghost use lib.ListN.{length};
 ghost use Rattle.definitions.specs.Fields.{le, Bytes};
 

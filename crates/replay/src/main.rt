@@ -6,32 +6,40 @@
 ghost use mathlib.Core.Path.{_≡_};
 ghost use Prim.Native.Nat.{_≤_};
 ghost use lib.ListN.{length, take};
-use libc::STDIN_FILENO;
+ghost use Rattle.console.specs.Input.{Within};
+use console::Input;
 use libc::STDOUT_FILENO;
 
-// Reads n bytes to the start of `sheet`, fewer if the input ends or `sheet` is too short, and gives how many.
-fn read_sheet(n: usize, sheet: &mut [u8]) -> usize
-    ensures { λ r. ⌜ (r ≤ length (now (sheet .exit))) × (r ≡ length (take r (now (sheet .exit)))) ⌝ }
+// Reads n bytes to the start of `sheet`, fewer if the input ends. Where `sheet` is too short, it reads nothing.
+fn read_sheet(n: usize, sheet: &mut [u8]) -> Input
+    ensures { λ r. ⌜ Within r (now (sheet .exit)) ⌝ }
 {
     if sheet.len() < n {
-        return 0;
+        return Input::Failed;
     }
-    io::read_full(STDIN_FILENO, &mut sheet[..n])
+    console::read(&mut sheet[..n])
 }
 
-// What is asked of the next sheet, and its length. The end of the input asks nothing, which is 0.
+// What is asked of the next sheet, and its length. The end of the input asks nothing, which is 0, and so does a read that failed.
 struct Head {
     asked: u8,
     length: usize,
 }
 
+fn no_head() -> Head {
+    Head {
+        asked: 0,
+        length: 0,
+    }
+}
+
 fn read_head() -> Head {
     let mut head = [0u8; 5];
-    if io::read_full(STDIN_FILENO, &mut head) < 5 {
-        return Head {
-            asked: 0,
-            length: 0,
-        };
+    let Input::Read(n) = console::read(&mut head) else {
+        return no_head();
+    };
+    if n < 5 {
+        return no_head();
     }
     Head {
         asked: head[0],
@@ -58,11 +66,18 @@ fn print_lowered(sheet: &[u8]) -> bool {
     io::write_all(STDOUT_FILENO, &text[..k])
 }
 
-// Prints the line of the answer to anything else.
+// Prints the line of the answer to anything else that is asked.
 fn print_answer(asked: u8, sheet: &[u8]) -> bool {
     let mut text = [0u8; 128];
     let k = answer_line(asked, sheet, &mut text);
     io::write_all(STDOUT_FILENO, &text[..k])
+}
+
+fn print_line(asked: u8, sheet: &[u8]) -> bool {
+    if asked == b'L' {
+        return print_lowered(sheet);
+    }
+    print_answer(asked, sheet)
 }
 
 // Reads one sheet, prints its line, and answers whether there was one.
@@ -73,15 +88,17 @@ fn replay_one() -> bool {
         return false;
     }
     let mut sheet = io::large_buffer();
-    let got = read_sheet(n, &mut sheet);
-    if head.asked == b'L' {
-        return print_lowered(&sheet[..got]);
-    }
-    print_answer(head.asked, &sheet[..got])
+    let Input::Read(got) = read_sheet(n, &mut sheet) else {
+        return false;
+    };
+    print_line(head.asked, &sheet[..got])
 }
 
 // A proved loop has to end, so it counts its turns down.
 fn main() {
+    if !console::has_args(0, b"replay < LIST") {
+        return;
+    }
     let mut turns = u64::MAX;
     while 0 < turns && replay_one() {
         turns -= 1;

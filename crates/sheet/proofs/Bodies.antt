@@ -9,14 +9,13 @@ use lib.ListN.{length}
 use borrow.Author.Tests.{ne-eqb, eqb-true, eqb-false}
 use Rattle.definitions.specs.Fields.{le}
 use Rattle.definitions.specs.Grammar.{Class, Field, Pattern, done, rows}
-use Rattle.definitions.specs.Records.{sizeOf, noRow, row, rowIn, refused, left, after}
+use Rattle.definitions.specs.Records.{sizeOf, fieldEnd, fieldsEnd, noRow, row, rowIn, refused, left, after}
 use Rattle.definitions.proofs.Sheets.Passed.{Fine, ends, goes}
 use Rattle.sheet.specs.Codes.{fields, fieldIn, fieldsFrom, fieldsOf, classOf, patternFrom, patternOf, bodyCoded, rowOf, RowIs, classIn, fixedIn, childrenIn}
 use Rattle.sheet.specs.Passed.{Standing, stopOf, bodyOf}
 use Rattle.sheet.proofs.Heads.{digits}
 use Rattle.sheet.proofs.Nodes.{Node, opens}
 use Rattle.sheet.proofs.Patterns.{true-false}
-use Rattle.sheet.proofs.Skips.{skip, skipAll, children-start}
 
 -- no children, no bytes
 pub childless : {s : List ℕ} {b stop : ℕ} {q : Pattern} → q ≡ done → Fine s b stop q → b ≡ stop
@@ -61,27 +60,27 @@ module _ {s : List ℕ} {at stop k : ℕ} (w : Standing s at stop k) where
     no-children z = w .stop-is ∙ sym (childless (row-is .pattern-is ∙ rw z) (n .kids))
 
     -- a row with the fields j
-    with-fields : {j : ℕ} → fixedIn x ≡ j → bodyOf s at ≡ skipAll (fieldsOf j) s (stopOf s at) (at + 6)
-    with-fields e = children-start (n .head) ∙ rw (row-is .fields-are, e)
+    with-fields : {j : ℕ} → fixedIn x ≡ j → bodyOf s at ≡ fieldsEnd (fieldsOf j) s (stopOf s at) (at + 6)
+    with-fields e = n .head .body-is ∙ rw (row-is .fields-are, e)
 
     pub name : fixedIn x ≡ 1 → at + 8 ≡ bodyOf s at
-    unfolding fields fieldIn fieldsFrom skip skipAll sizeOf
+    unfolding fields fieldIn fieldsFrom fieldEnd fieldsEnd sizeOf
     name e = omega (arith, with-fields e)
 
     pub operator : fixedIn x ≡ 7 → at + 8 ≡ bodyOf s at
-    unfolding fields fieldIn fieldsFrom skip skipAll sizeOf
+    unfolding fields fieldIn fieldsFrom fieldEnd fieldsEnd sizeOf
     operator e = omega (arith, with-fields e)
 
     pub function : fixedIn x ≡ 38433 → at + 12 + 2 + 4 * le 2 s (at + 12) ≡ bodyOf s at
-    unfolding fields fieldIn fieldsFrom skip skipAll sizeOf
+    unfolding fields fieldIn fieldsFrom fieldEnd fieldsEnd sizeOf
     function e = let z : at + 6 + 2 + 2 + 2 ≡ at + 12 = omega arith in sym (rw z at (with-fields e))
 
     pub ir-function : {p : ℕ} → p ≡ at + 14 + 2 + 6 * le 2 s (at + 14) → fixedIn x ≡ 762641 → p + 2 + 4 * le 2 s p ≡ bodyOf s at
-    unfolding fields fieldIn fieldsFrom skip skipAll sizeOf
+    unfolding fields fieldIn fieldsFrom fieldEnd fieldsEnd sizeOf
     ir-function f e = let z : at + 6 + 2 + 2 + 4 ≡ at + 14 = omega arith in rw f (sym (rw z at (with-fields e)))
 
     pub plain : (childrenIn x ≡ 0 → ⊥) → let c = fixedIn x in (((Unit {0} × (c ≡ 1 → ⊥)) × (c ≡ 7 → ⊥)) × (c ≡ 38433 → ⊥)) × (c ≡ 762641 → ⊥) → at + 6 ≡ bodyOf s at
-    unfolding fieldsFrom skipAll bodyCoded
+    unfolding fieldsFrom fieldsEnd bodyCoded
     plain z o = go (eqb (fixedIn x) 0) refl
       where
         go : (t : Bool) → eqb (fixedIn x) 0 ≡ t → at + 6 ≡ bodyOf s at

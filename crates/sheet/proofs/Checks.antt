@@ -8,8 +8,8 @@ use borrow.Author.Tests.{eq-eqb, ne-eqb}
 use Rattle.definitions.specs.Fields.{le}
 use Rattle.definitions.specs.Grammar.{Pattern}
 use Rattle.definitions.specs.Records.{pick, Form, Good, Bad, andThen, mayEnd, Next, nothing, starts, startIf, startAt, pastAll, checkRest, recordsFrom, checkRecords}
-use Rattle.definitions.proofs.Sheets.Passed.{bound-enough}
-use Rattle.sheet.specs.Codes.{fieldsOf, patternOf, coded, Leaves, RowIs, kindAt, classIn, fixedIn, childrenIn}
+use Rattle.definitions.proofs.Sheets.Passed.{Ends, all-past, bound-enough}
+use Rattle.sheet.specs.Codes.{placeOf, fieldsOf, patternOf, coded, Leaves, RowIs, kindAt, classIn, fixedIn, childrenIn}
 use Rattle.sheet.specs.Forms.{formOf}
 use Rattle.sheet.specs.declared.Form as declared
 use Rattle.sheet.specs.declared.Form.the-variants as answer
@@ -80,27 +80,28 @@ pub record Entered (s : List ℕ) (at end q place x n l b : ℕ) : Type 0 where
   pub rest : coded n ≡ true
   pub is : checkRecords s at end (patternOf q) ≡ andThen (checkRecords s b (place + l) (patternOf (childrenIn x))) (checkRecords s (place + l) end (patternOf n))
 
-module _ {s : List ℕ} {at end q place left x n l b : ℕ} (g : Going s at end q place left) (h : place < end) (d : Begun s place end left x n) (el : l ≡ le 4 s place)
-    (eb : b ≡ pastAll (fieldsOf (fixedIn x)) s (place + l) (place + 6)) where
-  starting : startAt s place end (patternOf left) ≡ startIf b (place + l) (patternOf (childrenIn x)) (Next.left (patternOf n))
+module _ {s : List ℕ} {at end q place left x n l : ℕ} (g : Going s at end q place left) (h : place < end) (d : Begun s place end left x n) (el : l ≡ le 4 s place) (b : ℕ)
+    (eb : placeOf b ≡ pastAll (fieldsOf (fixedIn x)) s (place + l) (place + 6)) where
+  starting : startAt s place end (patternOf left) ≡ startIf (placeOf b) (place + l) (patternOf (childrenIn x)) (Next.left (patternOf n))
   starting = rw (eb, el) (d .is)
 
   pub not-valid : b ≡ 0 → formOf (answer.Bad place) ≡ checkRecords s at end (patternOf q)
-  unfolding formOf startIf
+  unfolding formOf startIf placeOf
   not-valid z = rw (g .same) (step-no s place end (patternOf left) h (rw (starting, z)))
 
-  pub enters : (b ≡ 0 → ⊥) → place + 6 ≤ b → b ≤ place + l → Entered s at end q place x n l b
-  unfolding startIf
-  enters z low high =
+  pub enters : (b ≡ 0 → ⊥) → Entered s at end q place x n l b
+  unfolding startIf placeOf
+  enters z =
       let m : place + l ≤ end = rw el (d .most) in
+      let f : Ends (fieldsOf (fixedIn x)) s (place + l) (place + 6) b = all-past (fieldsOf (fixedIn x)) s (place + l) (place + 6) b (rw (ne-eqb b 0 z) at (sym eb)) (rw el (d .least)) in
       record {
         low = g .low;
-        body = low;
-        stop = high;
+        body = f .low;
+        stop = f .high;
         parent = m;
         children = d .children;
         rest = d .rest;
-        is = rw (g .same) (step-yes s place end (patternOf left) h low high m (rw (starting, ne-eqb b 0 z)));
+        is = rw (g .same) (step-yes s place end (patternOf left) h (f .low) (f .high) m (rw (starting, ne-eqb b 0 z)));
       }
 
 module _ {s : List ℕ} {at end q place x n l b : ℕ} (d : Entered s at end q place x n l b) where

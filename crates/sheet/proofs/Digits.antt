@@ -1,15 +1,16 @@
 -- The fields of a code, one digit at a time. Assumes nothing.
-use mathlib.Core.Path.{_≡_, ap}
+use mathlib.Core.Path.{_≡_, sym, ap, _∙_}
 use mathlib.Core.List.{List, [], _∷_}
-use Prim.Native.Nat.{ℕ, zero, suc, _-_, _/_, _%_, _^_, _<_, _≤_}
+use mathlib.Core.Option.{none}
+use Prim.Native.Nat.{ℕ, zero, suc, _/_, _%_, _^_, _<_, _≤_}
 use native.Mathlib.Nat.{pow-suc}
 use native.Mathlib.Omega.{arith}
 use lib.Dec.{eqb}
 use borrow.Author.Tests.{ne-eqb}
 use Rattle.definitions.specs.Grammar.{Field}
 use Rattle.definitions.specs.Records.{pick, past, pastAll}
-use Rattle.definitions.proofs.Sheets.Passed.{field-past, past-zero}
-use Rattle.sheet.specs.Codes.{fieldOf, fieldsFrom, fieldsOf}
+use Rattle.definitions.proofs.Sheets.Passed.{one-past, field-within, past-on}
+use Rattle.sheet.specs.Codes.{placeOf, fieldOf, fieldsFrom, fieldsOf}
 
 -- the bound on the digits does not matter, if the code has no more
 enough : (n x : ℕ) → x < 16 ^ n → fieldsFrom (suc n) x ≡ fieldsFrom n x
@@ -30,23 +31,23 @@ pub record Passing (s : List ℕ) (at stop code place left : ℕ) : Type 0 where
   pub small : left < 1048576
   pub same : pastAll (fieldsOf code) s stop at ≡ pastAll (fieldsOf left) s stop place
 
-module _ {s : List ℕ} {at stop code place left : ℕ} (p : Passing s at stop code place left) where
-  pub all-passed : left ≡ 0 → place ≡ pastAll (fieldsOf code) s stop at
-  unfolding fieldsFrom pastAll
-  all-passed z = rw (p .same, z)
+module _ {s : List ℕ} {at stop code place left : ℕ} (p : Passing s at stop code place left) (a : 0 < at) where
+  pub all-passed : left ≡ 0 → placeOf place ≡ pastAll (fieldsOf code) s stop at
+  unfolding fieldsFrom pastAll placeOf
+  all-passed z = let l : at ≤ place = p .low in rw (p .same, z, ne-eqb place 0 (λ y. omega arith))
 
-  module _ (a : 0 < at) (z : left ≡ 0 → ⊥) {x : ℕ} (e : x ≡ past (fieldOf (left % 16)) s stop place) where
-    one-more : pastAll (fieldsOf code) s stop at ≡ pastAll (fieldsOf (left / 16)) s stop x
-    unfolding pastAll
-    one-more = let l : at ≤ place = p .low in rw (p .same, next-digit left (p .small) z, ne-eqb place 0 (λ y. omega arith), e)
+  module _ (z : left ≡ 0 → ⊥) (x : ℕ) (e : placeOf x ≡ past (fieldOf (left % 16)) s stop place) where
+    one-more : pastAll (fieldsOf code) s stop at ≡ pastAll (fieldOf (left % 16) ∷ fieldsOf (left / 16)) s stop place
+    one-more = p .same ∙ ap (λ (fs : List Field). pastAll fs s stop place) (next-digit left (p .small) z)
 
-    pub not-passed : x ≡ 0 → 0 ≡ pastAll (fieldsOf code) s stop at
-    not-passed y = rw (one-more, y, past-zero (fieldsOf (left / 16)) s stop)
+    pub not-passed : x ≡ 0 → placeOf 0 ≡ pastAll (fieldsOf code) s stop at
+    unfolding placeOf pastAll
+    not-passed y = let w : past (fieldOf (left % 16)) s stop place ≡ none = rw y at (sym e) in rw (one-more, w, pastAll)
 
     pub passed : (x ≡ 0 → ⊥) → Passing s at stop code x (left / 16)
+    unfolding placeOf
     passed y =
-        let f = field-past (fieldOf (left % 16)) s stop place (p .high) in
+        let f = one-past (fieldOf (left % 16)) s stop place x (rw (ne-eqb x 0 y) at (sym e)) in
+        let w = field-within (fieldOf (left % 16)) s stop place (f .0) (p .high) in
         let m : left < 1048576 = p .small in
-        let l : place ≤ x = rw e (f .1 (rw e at y)) in
-        let k : at ≤ place = p .low in
-        record { low = omega arith; high = rw e (f .0); small = omega arith; same = one-more }
+        record { low = omega (arith, p .low, w .0, f .1); high = omega (arith, w .1, f .1); small = omega arith; same = one-more ∙ rw (f .1) (past-on (fieldOf (left % 16)) (fieldsOf (left / 16)) s stop place (f .0)) }

@@ -1,7 +1,8 @@
 -- One field, way by way through the code: what `past` is there, over the entry. Assumes nothing.
-use mathlib.Core.Path.{_≡_, subst⁻¹}
-use mathlib.Core.Bool.{Bool, true, false}
+use mathlib.Core.Path.{_≡_, refl, subst⁻¹}
+use mathlib.Core.Bool.{Bool, true, false, _&&_}
 use mathlib.Core.List.{List, _∷_}
+use mathlib.Core.Option.{Option, none, some}
 use Prim.Native.Nat.{ℕ, suc, _+_, _-_, _*_, _/_, _%_, _<_, _≤_}
 use native.Mathlib.Nat.{mul-suc, mul-div-le}
 use native.Mathlib.Omega.{arith}
@@ -9,8 +10,9 @@ use lib.Dec.{leb, eqb}
 use borrow.Author.Tests.{le-leb, lt-leb, eq-eqb, ne-eqb}
 use Rattle.definitions.specs.Fields.{le}
 use Rattle.definitions.specs.Grammar.{Entry, upTo, number, irType, valueAndType, nameAndType, Field, single, counted, listed}
-use Rattle.definitions.specs.Records.{pick, sizeOf, okType, okItem, okItems, past}
-use Rattle.sheet.specs.Codes.{fields, fieldIn, fieldOf, entryOf}
+use Rattle.definitions.specs.Records.{pick, sizeOf, okType, okItem, okItems, fieldEnd, okField, past}
+use Rattle.definitions.proofs.Results.{by-test}
+use Rattle.sheet.specs.Codes.{placeOf, fields, fieldIn, fieldOf, entryOf}
 use Rattle.sheet.proofs.Arms.{Others, passed-over}
 
 -- a type
@@ -100,11 +102,11 @@ times-more a n h = go n (n - 1) (omega arith)
     go : (m k : ℕ) → m ≡ suc k → a * m ≡ a + a * k
     go m k q = rw (q, mul-suc) (omega arith)
 
-items-more : (e : Entry) (n : ℕ) (s : List ℕ) (at : ℕ) → 0 < n → okItems e n s at ≡ pick (okItem e s at) (okItems e (n - 1) s (at + sizeOf e)) false
+items-more : (e : Entry) (n : ℕ) (s : List ℕ) (at : ℕ) → 0 < n → okItems e n s at ≡ (okItem e s at && okItems e (n - 1) s (at + sizeOf e))
 unfolding okItems
 items-more e n s at h = go n (n - 1) (omega arith)
   where
-    go : (m k : ℕ) → m ≡ suc k → okItems e m s at ≡ pick (okItem e s at) (okItems e k s (at + sizeOf e)) false
+    go : (m k : ℕ) → m ≡ suc k → okItems e m s at ≡ (okItem e s at && okItems e k s (at + sizeOf e))
     go m k q = rw q
 
 module _ {e : Entry} {s : List ℕ} {at count place left : ℕ} (l : Left e s at count place left) where
@@ -123,73 +125,92 @@ module _ {e : Entry} {s : List ℕ} {at count place left : ℕ} (l : Left e s at
       pub onward : b ≡ true → {z : ℕ} → z ≡ sizeOf e → Left e s at count (place + z) (left - 1)
       onward y f = record { places = rw f (omega (arith, times-more (sizeOf e) left h, l .places)); same = rw (f, l .same, items-more e left s place h, ← o, y) }
 
+-- PLACES: a field that is not valid, and one that is
+pub placed : (x : ℕ) → 0 < x → placeOf x ≡ some x
+unfolding placeOf
+placed x h = rw (ne-eqb x 0 (λ z. omega arith))
+
+bad-place : (f : Field) (s : List ℕ) (stop at : ℕ) → okField f s stop at ≡ false → placeOf 0 ≡ past f s stop at
+unfolding past placeOf
+bad-place f s stop at o = rw o
+
+good-place : (f : Field) (s : List ℕ) (stop at : ℕ) → okField f s stop at ≡ true → 0 < fieldEnd f s stop at → placeOf (fieldEnd f s stop at) ≡ past f s stop at
+unfolding past
+good-place f s stop at o h = rw o (placed (fieldEnd f s stop at) h)
+
 module _ (e : Entry) (s : List ℕ) (at stop : ℕ) where
-  pub single-short : stop - at < sizeOf e → 0 ≡ past (single e) s stop at
-  unfolding past
-  single-short h = rw (lt-leb (sizeOf e) (stop - at) h)
+  pub single-short : stop - at < sizeOf e → placeOf 0 ≡ past (single e) s stop at
+  unfolding okField
+  single-short h = bad-place (single e) s stop at (rw (lt-leb (sizeOf e) (stop - at) h))
 
-  pub single-good : sizeOf e ≤ stop - at → okItem e s at ≡ true → at + sizeOf e ≡ past (single e) s stop at
-  unfolding past
-  single-good h o = rw (le-leb (sizeOf e) (stop - at) h, o)
+  pub single-good : 0 < at → sizeOf e ≤ stop - at → okItem e s at ≡ true → placeOf (at + sizeOf e) ≡ past (single e) s stop at
+  unfolding okField fieldEnd
+  single-good a h o = good-place (single e) s stop at (rw (le-leb (sizeOf e) (stop - at) h, o)) (omega arith)
 
-  pub single-bad : sizeOf e ≤ stop - at → okItem e s at ≡ false → 0 ≡ past (single e) s stop at
-  unfolding past
-  single-bad h o = rw (le-leb (sizeOf e) (stop - at) h, o)
+  pub single-bad : sizeOf e ≤ stop - at → okItem e s at ≡ false → placeOf 0 ≡ past (single e) s stop at
+  unfolding okField
+  single-bad h o = bad-place (single e) s stop at (rw (le-leb (sizeOf e) (stop - at) h, o))
 
-  pub count-short : stop - at < 2 → 0 ≡ past (counted e) s stop at
-  unfolding past
-  count-short h = rw (lt-leb 2 (stop - at) h)
+  pub single-free : okItem e s at ≡ true → {o : Option ℕ} → o ≡ pick (leb (sizeOf e) (stop - at)) (some (at + sizeOf e)) none → o ≡ past (single e) s stop at
+  unfolding past okField fieldEnd
+  single-free k p = by-test (leb (sizeOf e) (stop - at)) (λ q. rw (q, k) (rw q at p)) (λ q. rw q (rw q at p))
+
+  pub count-short : stop - at < 2 → placeOf 0 ≡ past (counted e) s stop at
+  unfolding okField
+  count-short h = bad-place (counted e) s stop at (rw (lt-leb 2 (stop - at) h))
 
   module _ (r : 2 ≤ stop - at) {x : ℕ} (ex : x ≡ le 2 s at) {z : ℕ} (ez : z ≡ sizeOf e) where
-    counting : past (counted e) s stop at ≡ pick (leb (z * x) (stop - (at + 2))) (pick (okItems e x s (at + 2)) (at + 2 + z * x) 0) 0
-    unfolding past
+    counting : okField (counted e) s stop at ≡ (leb (z * x) (stop - (at + 2)) && okItems e x s (at + 2))
+    unfolding okField
     counting = rw (le-leb 2 (stop - at) r, ← ex, ← ez)
 
-    pub counted-short : stop - (at + 2) < z * x → 0 ≡ past (counted e) s stop at
-    counted-short h = rw (counting, lt-leb (z * x) (stop - (at + 2)) h)
+    pub counted-short : stop - (at + 2) < z * x → placeOf 0 ≡ past (counted e) s stop at
+    counted-short h = bad-place (counted e) s stop at (rw (counting, lt-leb (z * x) (stop - (at + 2)) h))
 
     pub counted-fits : z * x ≤ stop - (at + 2) → {n : ℕ} → stop ≤ n → at + 2 + sizeOf e * x ≤ n
     counted-fits h k = rw (← ez) (omega arith)
 
-    pub counted-good : z * x ≤ stop - (at + 2) → {b : Bool} → b ≡ okItems e x s (at + 2) → b ≡ true → at + 2 + z * x ≡ past (counted e) s stop at
-    counted-good h o y = rw (counting, le-leb (z * x) (stop - (at + 2)) h, ← o, y)
+    pub counted-good : z * x ≤ stop - (at + 2) → {b : Bool} → b ≡ okItems e x s (at + 2) → b ≡ true → placeOf (at + 2 + z * x) ≡ past (counted e) s stop at
+    unfolding fieldEnd
+    counted-good h o y = rw (ez, ex) (good-place (counted e) s stop at (rw (counting, le-leb (z * x) (stop - (at + 2)) h, ← o, y)) (omega arith))
 
-    pub counted-bad : z * x ≤ stop - (at + 2) → {b : Bool} → b ≡ okItems e x s (at + 2) → b ≡ false → 0 ≡ past (counted e) s stop at
-    counted-bad h o y = rw (counting, le-leb (z * x) (stop - (at + 2)) h, ← o, y)
+    pub counted-bad : z * x ≤ stop - (at + 2) → {b : Bool} → b ≡ okItems e x s (at + 2) → b ≡ false → placeOf 0 ≡ past (counted e) s stop at
+    counted-bad h o y = bad-place (counted e) s stop at (rw (counting, le-leb (z * x) (stop - (at + 2)) h, ← o, y))
 
   module _ {z : ℕ} (ez : z ≡ sizeOf e) where
-    listing : past (listed e) s stop at ≡ pick (eqb ((stop - at) % z) 0) (pick (okItems e ((stop - at) / z) s at) stop 0) 0
-    unfolding past
+    listing : okField (listed e) s stop at ≡ (eqb ((stop - at) % z) 0 && okItems e ((stop - at) / z) s at)
+    unfolding okField
     listing = rw (← ez)
 
-    pub listed-odd : ((stop - at) % z ≡ 0 → ⊥) → 0 ≡ past (listed e) s stop at
-    listed-odd m = rw (listing, ne-eqb ((stop - at) % z) 0 m)
+    pub listed-odd : ((stop - at) % z ≡ 0 → ⊥) → placeOf 0 ≡ past (listed e) s stop at
+    listed-odd m = bad-place (listed e) s stop at (rw (listing, ne-eqb ((stop - at) % z) 0 m))
 
     pub listed-fits : at ≤ stop → {n : ℕ} → stop ≤ n → at + sizeOf e * ((stop - at) / z) ≤ n
     listed-fits h k = rw (← ez) (omega (arith, mul-div-le (stop - at) z))
 
-    pub listed-good : (stop - at) % z ≡ 0 → {b : Bool} → b ≡ okItems e ((stop - at) / z) s at → b ≡ true → stop ≡ past (listed e) s stop at
-    listed-good m o y = rw (listing, eq-eqb ((stop - at) % z) 0 m, ← o, y)
+    pub listed-good : 0 < at → at ≤ stop → (stop - at) % z ≡ 0 → {b : Bool} → b ≡ okItems e ((stop - at) / z) s at → b ≡ true → placeOf stop ≡ past (listed e) s stop at
+    unfolding fieldEnd
+    listed-good a l m o y = good-place (listed e) s stop at (rw (listing, eq-eqb ((stop - at) % z) 0 m, ← o, y)) (omega arith)
 
-    pub listed-bad : (stop - at) % z ≡ 0 → {b : Bool} → b ≡ okItems e ((stop - at) / z) s at → b ≡ false → 0 ≡ past (listed e) s stop at
-    listed-bad m o y = rw (listing, eq-eqb ((stop - at) % z) 0 m, ← o, y)
+    pub listed-bad : (stop - at) % z ≡ 0 → {b : Bool} → b ≡ okItems e ((stop - at) / z) s at → b ≡ false → placeOf 0 ≡ past (listed e) s stop at
+    listed-bad m o y = bad-place (listed e) s stop at (rw (listing, eq-eqb ((stop - at) % z) 0 m, ← o, y))
 
 -- a field by its digit
-pub by-digit : (s : List ℕ) (stop at : ℕ) {d j r : ℕ} → d ≡ j → r ≡ past (fieldOf j) s stop at → r ≡ past (fieldOf d) s stop at
-by-digit s stop at {r = r} e h = subst⁻¹ (λ (i : ℕ). r ≡ past (fieldOf i) s stop at) e h
+pub by-digit : (s : List ℕ) (stop at : ℕ) {d j : ℕ} {o : Option ℕ} → d ≡ j → o ≡ past (fieldOf j) s stop at → o ≡ past (fieldOf d) s stop at
+by-digit s stop at {o = o} e h = subst⁻¹ (λ (i : ℕ). o ≡ past (fieldOf i) s stop at) e h
 
 abbrev pub digit : ℕ × Field → ℕ
 digit f = f .0
 
 -- no field takes no byte
-pub nothing-past : (s : List ℕ) (stop at : ℕ) → at ≡ past (single (number 0)) s stop at
-unfolding past sizeOf okItem
-nothing-past s stop at = rw (le-leb 0 (stop - at) (omega arith)) (omega arith)
+nothing-past : (s : List ℕ) (stop at : ℕ) → 0 < at → placeOf at ≡ past (single (number 0)) s stop at
+unfolding sizeOf okItem
+nothing-past s stop at a = let z : at + 0 ≡ at = omega arith in rw z at (single-good (number 0) s at stop a (omega arith) refl)
 
 skips : (d : ℕ) (f : ℕ × Field) (fs : List (ℕ × Field)) → (d ≡ digit f → ⊥) → fieldIn d (f ∷ fs) ≡ fieldIn d fs
 unfolding fieldIn
 skips d f fs z = rw (ne-eqb d (f .0) z)
 
-pub no-digit : (s : List ℕ) (stop at d : ℕ) → Others digit d (Unit {0}) fields → at ≡ past (fieldOf d) s stop at
+pub no-digit : (s : List ℕ) (stop at d : ℕ) → 0 < at → Others digit d (Unit {0}) fields → placeOf at ≡ past (fieldOf d) s stop at
 unfolding fieldIn
-no-digit s stop at d o = rw (passed-over digit d (fieldIn d) (skips d) (Unit {0}) fields o) (nothing-past s stop at)
+no-digit s stop at d a o = rw (passed-over digit d (fieldIn d) (skips d) (Unit {0}) fields o) (nothing-past s stop at a)

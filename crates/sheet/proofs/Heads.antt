@@ -9,7 +9,7 @@ use borrow.Author.Tests.{le-leb, lt-leb, leb-true, ne-eqb, eqb-true, eqb-false}
 use Rattle.definitions.specs.Fields.{le}
 use Rattle.definitions.specs.Grammar.{Pattern, rows}
 use Rattle.definitions.specs.Records.{pick, noRow, row, rowIn, refused, left, after, nothing, startIf, startRow, startAt, pastAll}
-use Rattle.definitions.proofs.Sheets.Reads.{both-true}
+use Rattle.definitions.proofs.Sheets.Passed.{both-true}
 use Rattle.sheet.specs.Codes.{fieldsOf, classOf, patternOf, classCoded, coded, nextOf, afterClass, Leaves, bodyCoded, rowOf, rowCoded, RowIs, kindAt, classIn, fixedIn, childrenIn}
 use Rattle.sheet.proofs.Patterns.{class-range}
 

@@ -1,4 +1,4 @@
--- For the proofs of other crates: `Nodes` opens a record of a sheet that passed, and `Skips` says where its children start and what its fields are.
+-- For the proofs of other crates: `Nodes` opens a record of a sheet that passed, and says where its children start and what its fields are.
 mod Arms
 mod Bodies
 mod Checks
@@ -9,6 +9,5 @@ mod Heads
 pub mod Nodes
 mod Patterns
 mod Rows
-pub mod Skips
 mod Widths
 mod Within

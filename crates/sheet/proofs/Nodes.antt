@@ -4,10 +4,9 @@ use mathlib.Core.List.{List}
 use Prim.Native.Nat.{ℕ, _+_, _<_, _≤_}
 use native.Mathlib.Omega.{arith}
 use Rattle.definitions.specs.Grammar.{Class, Field, Pattern, rows}
-use Rattle.definitions.specs.Records.{rowIn, rowFields, readValues, node, tcons, readRecords}
+use Rattle.definitions.specs.Records.{rowIn, rowFields, fieldsEnd, readValues, node, tcons, readRecords}
 use Rattle.definitions.proofs.Sheets.Passed.{Head, Fine, ends, goes, read-step}
 use Rattle.sheet.specs.Passed.{Passed, kindOf, stopOf, bodyOf, valuesOf, childrenOf}
-use Rattle.sheet.proofs.Skips.{skipAll, skipValues, children-start, fields-read}
 
 pub record Node (s : List ℕ) (at end : ℕ) : Type 0 where
   pub class : Class
@@ -58,9 +57,9 @@ module _ {s : List ℕ} {at end : ℕ} (n : Node s at end) where
   pub head-of : {j : ℕ} → kindOf s at ≡ j → Head s at end (n .class) (rowFields (rowIn j rows)) (n .pattern) (bodyOf s at) (stopOf s at)
   head-of e = rw (fields-of e) at (n .head)
 
-  pub children-of : {j : ℕ} → kindOf s at ≡ j → bodyOf s at ≡ skipAll (rowFields (rowIn j rows)) s (stopOf s at) (at + 6)
-  children-of e = children-start (head-of e)
+  pub children-of : {j : ℕ} → kindOf s at ≡ j → bodyOf s at ≡ fieldsEnd (rowFields (rowIn j rows)) s (stopOf s at) (at + 6)
+  children-of e = head-of e .body-is
 
-  pub values-of : {j : ℕ} → kindOf s at ≡ j → valuesOf s at ≡ skipValues (rowFields (rowIn j rows)) s (stopOf s at) (at + 6)
-  unfolding valuesOf rowFields
-  values-of e = rw (← fields-of e, n .head .is) (fields-read (n .head))
+  pub values-of : {j : ℕ} → kindOf s at ≡ j → valuesOf s at ≡ readValues (rowFields (rowIn j rows)) s (stopOf s at) (at + 6)
+  unfolding valuesOf
+  values-of e = ap (λ (i : ℕ). readValues (rowFields (rowIn i rows)) s (stopOf s at) (at + 6)) e

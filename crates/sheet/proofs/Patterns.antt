@@ -1,14 +1,14 @@
 -- The pattern of a code, one child at a time. Assumes nothing.
 use mathlib.Core.Path.{_≡_, refl, sym, ap, _∙_}
-use mathlib.Core.Bool.{Bool, true, false}
-use Prim.Native.Nat.{ℕ, zero, suc, _-_, _/_, _%_, _<_, _≤_}
+use mathlib.Core.Bool.{Bool, true, false, _&&_}
+use Prim.Native.Nat.{ℕ, zero, suc, _/_, _%_, _<_, _≤_}
 use native.Mathlib.Nat.{not-suc-le-zero}
 use native.Mathlib.Omega.{arith}
 use lib.Dec.{leb, eqb}
 use borrow.Author.Tests.{leb-true, eq-eqb, ne-eqb, eqb-true, eqb-false}
 use Rattle.definitions.specs.Grammar.{classNo, Pattern, done, one, perhaps, many}
 use Rattle.definitions.specs.Records.{pick, refused, left, after, mayEnd}
-use Rattle.definitions.proofs.Sheets.Reads.{both-true}
+use Rattle.definitions.proofs.Sheets.Passed.{both-true}
 use Rattle.sheet.specs.Codes.{classes, classOf, child, patternFrom, patternOf, classCoded, codedFrom, coded, nextOf, afterClass, Leaves}
 
 pub true-false : true ≡ false → ⊥
@@ -17,7 +17,7 @@ true-false e = let z : _≡_ {A = ℕ} 0 1 = cc in omega arith
 -- a test that holds of each number below n
 abbrev all-below : ℕ → (ℕ → Bool) → Bool
 all-below zero t = true
-all-below (suc n) t = pick (t n) (all-below n t) false
+all-below (suc n) t = t n && all-below n t
 
 below : (n : ℕ) (t : ℕ → Bool) → all-below n t ≡ true → (k : ℕ) → k < n → t k ≡ true
 below zero t e k h = absurd (not-suc-le-zero h)
@@ -104,7 +104,7 @@ unfolding codedFrom
 wider zero x e = rw e
 wider (suc n) x e = go (eqb x 0) (classCoded (x % 256 % 16)) e (wider n (x / 256))
   where
-    go : (t u : Bool) → pick t true (pick u (codedFrom n (x / 256)) false) ≡ true → (codedFrom n (x / 256) ≡ true → codedFrom (suc n) (x / 256) ≡ true) → pick t true (pick u (codedFrom (suc n) (x / 256)) false) ≡ true
+    go : (t u : Bool) → pick t true (u && codedFrom n (x / 256)) ≡ true → (codedFrom n (x / 256) ≡ true → codedFrom (suc n) (x / 256) ≡ true) → pick t true (u && codedFrom (suc n) (x / 256)) ≡ true
     go true u q f = refl
     go false true q f = f q
     go false false q f = absurd (true-false (sym q))
@@ -114,7 +114,7 @@ unfolding codedFrom patternFrom
 same zero x e = rw e
 same (suc n) x e = go (eqb x 0) (classCoded (x % 256 % 16)) e (same n (x / 256))
   where
-    go : (t u : Bool) → pick t true (pick u (codedFrom n (x / 256)) false) ≡ true → (codedFrom n (x / 256) ≡ true → patternFrom (suc n) (x / 256) ≡ patternFrom n (x / 256))
+    go : (t u : Bool) → pick t true (u && codedFrom n (x / 256)) ≡ true → (codedFrom n (x / 256) ≡ true → patternFrom (suc n) (x / 256) ≡ patternFrom n (x / 256))
         → pick t done (child (x % 256) (patternFrom (suc n) (x / 256))) ≡ pick t done (child (x % 256) (patternFrom n (x / 256)))
     go true u q f = refl
     go false true q f = ap (child (x % 256)) (f q)

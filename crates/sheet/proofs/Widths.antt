@@ -1,21 +1,21 @@
 -- How wide a record that passed is: the ways of the code through `tooWide`. Assumes nothing.
 use mathlib.Core.Path.{_≡_, sym, ap, _∙_}
 use mathlib.Core.Bool.{false}
-use mathlib.Core.List.{List}
+use mathlib.Core.List.{List, [], _∷_}
 use Prim.Native.Nat.{ℕ, _+_, _-_, _/_, _≤_}
 use native.Mathlib.Omega.{arith}
 use lib.Dec.{leb}
 use lib.ListN.{length}
 use borrow.Author.Tests.{ne-eqb}
 use Rattle.definitions.specs.Fields.{le}
-use Rattle.definitions.specs.Grammar.{rows, nameAndType}
-use Rattle.definitions.specs.Records.{sizeOf, Value, rowIn, rowFields, readValue, readRecords, itemsAt}
+use Rattle.definitions.specs.Grammar.{rows, upTo, nameAndType, listed}
+use Rattle.definitions.specs.Records.{sizeOf, Value, fieldEnd, fieldsEnd, rowIn, rowFields, readValue, readValues, readRecords, itemsAt}
 use Rattle.definitions.specs.ContractSheet.{countTrees}
 use Rattle.definitions.proofs.Sheets.Reads.{items-count}
+use Rattle.definitions.proofs.Sheets.Singles.{after, starts}
 use Rattle.sheet.specs.Limits.{tooWide}
 use Rattle.sheet.specs.Passed.{Passed, Standing, kindOf, stopOf, bodyOf, valuesOf, childrenOf}
 use Rattle.sheet.proofs.Nodes.{Node, opens, head-of, children-of, values-of}
-use Rattle.sheet.proofs.Skips.{skip, skipAll, skipValues, first-inside}
 
 abbrev Others : ℕ → Type 0
 Others k = (((Unit {0} × (k ≡ 3 → ⊥)) × (k ≡ 4 → ⊥)) × (k ≡ 19 → ⊥)) × (k ≡ 37 → ⊥)
@@ -36,11 +36,11 @@ module _ {s : List ℕ} {at stop k : ℕ} (w : Standing s at stop k) where
   -- a struct
   module _ (e : k ≡ 3) where
     pub struct-starts : at + 8 ≤ stop
-    unfolding rowFields rowIn rows skip sizeOf
-    struct-starts = omega (arith, first-inside (head-of n (is e)))
+    unfolding rowFields rowIn rows after sizeOf
+    struct-starts = omega (arith, starts (upTo 65534 ∷ []) (listed nameAndType ∷ []) (head-of n (is e)) .fits)
 
     pub struct-wide : leb 65 ((stop - (at + 8)) / 4) ≡ tooWide k (valuesOf s at) (countTrees (childrenOf s at))
-    unfolding tooWide rowFields rowIn rows skip skipValues sizeOf readValue
+    unfolding tooWide rowFields rowIn rows fieldEnd readValues sizeOf readValue
     struct-wide =
         let z : (stopOf s at - (at + 6 + 2)) / 4 ≡ (stop - (at + 8)) / 4 = omega arith in
         let l : length (itemsAt 1 (valuesOf s at)) ≡ (stop - (at + 8)) / 4 = ap (λ (v : List Value). length (itemsAt 1 v)) (values-of n (is e)) ∙ items-count nameAndType _ s _ ∙ z in
@@ -49,11 +49,11 @@ module _ {s : List ℕ} {at stop k : ℕ} (w : Standing s at stop k) where
   -- a function
   module _ (e : k ≡ 4) where
     pub function-starts : at + 12 + 2 ≤ length s
-    unfolding rowFields rowIn rows skip skipAll sizeOf
+    unfolding rowFields rowIn rows fieldEnd fieldsEnd sizeOf
     function-starts = let b : bodyOf s at ≤ stopOf s at = n .head .mid in omega (arith, children-of n (is e), stop-inside)
 
     pub function-wide : {x : ℕ} → x ≡ le 2 s (at + 12) → leb 17 x ≡ tooWide k (valuesOf s at) (countTrees (childrenOf s at))
-    unfolding tooWide rowFields rowIn rows skip skipValues sizeOf readValue
+    unfolding tooWide rowFields rowIn rows fieldEnd readValues sizeOf readValue
     function-wide f =
         let z : at + 6 + 2 + 2 + 2 ≡ at + 12 = omega arith in
         let l : length (itemsAt 3 (valuesOf s at)) ≡ le 2 s (at + 12) = ap (λ (v : List Value). length (itemsAt 3 v)) (values-of n (is e)) ∙ items-count nameAndType _ s _ ∙ rw z in
@@ -62,7 +62,7 @@ module _ {s : List ℕ} {at stop k : ℕ} (w : Standing s at stop k) where
   -- a kind j with the fields of an Emit (19): its arguments are its children
   module _ {j : ℕ} (e : k ≡ j) (f : rowFields (rowIn j rows) ≡ rowFields (rowIn 19 rows)) where
     arguments-start : bodyOf s at ≡ at + 8
-    unfolding rowFields rowIn rows skip skipAll sizeOf
+    unfolding rowFields rowIn rows fieldEnd fieldsEnd sizeOf
     arguments-start = let b = rw f at (children-of n (is e)) in omega (arith, b)
 
     pub arguments-passed : Passed s (at + 8) stop × (stop ≤ length s)

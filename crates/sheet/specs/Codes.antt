@@ -1,13 +1,19 @@
--- The numbers by which the code names fields, patterns and rows (src/tables.rt), decoded. Assumes nothing: these are definitions.
+-- The numbers by which the code names places, fields, patterns and rows (src/tables.rt), decoded. Nothing here has to be believed: only the contracts
+-- of private functions cite it. Assumes nothing: these are definitions.
 use Prim.Native.Nat.{ℕ, zero, suc, _+_, _-_, _/_, _%_}
 use mathlib.Core.Path.{_≡_}
-use mathlib.Core.Bool.{Bool, true, false}
+use mathlib.Core.Bool.{Bool, true, _&&_}
 use mathlib.Core.List.{List, [], _∷_}
+use mathlib.Core.Option.{Option, none, some}
 use lib.Dec.{leb, eqb}
 use lib.ListN.{getD}
 use Rattle.definitions.specs.Fields.{le}
 use Rattle.definitions.specs.Grammar.{Entry, upTo, optional, number, irType, valueAndType, nameAndType, Field, single, counted, listed, Class, Pattern, done, one, perhaps, many, rows}
 use Rattle.definitions.specs.Records.{pick, Row, noRow, row, rowIn, Next, refused, left, after}
+
+-- PLACES: the code gives the place after a field, or after all fields, and 0 where there is none. A field starts behind its record's head, so none ends at 0.
+unfoldable pub placeOf : ℕ → Option ℕ
+placeOf x = pick (eqb x 0) none (some x)
 
 -- FIELDS: a digit each, the first field lowest; the first number bounds the digits
 unfoldable pub fields : List (ℕ × Field)
@@ -65,11 +71,11 @@ patternOf x = patternFrom 3 x
 
 -- a class, and a pattern, that the digits can name
 unfoldable pub classCoded : ℕ → Bool
-classCoded d = pick (leb 1 d) (leb d 14) false
+classCoded d = leb 1 d && leb d 14
 
 unfoldable pub codedFrom : ℕ → ℕ → Bool
 codedFrom zero x = eqb x 0
-codedFrom (suc n) x = pick (eqb x 0) true (pick (classCoded (x % 256 % 16)) (codedFrom n (x / 256)) false)
+codedFrom (suc n) x = pick (eqb x 0) true (classCoded (x % 256 % 16) && codedFrom n (x / 256))
 
 abbrev pub coded : ℕ → Bool
 coded x = codedFrom 3 x
@@ -104,8 +110,7 @@ unfoldable pub bodyCoded : ℕ → Bool
 bodyCoded c = pick (eqb c 0) true (pick (eqb c 1) true (pick (eqb c 7) true (pick (eqb c 38433) true (eqb c 762641))))
 
 unfoldable pub rowCoded : ℕ → Bool
-rowCoded x =
-    pick (eqb x 0) true (pick (classCoded (classIn x)) (pick (coded (childrenIn x)) (pick (eqb (childrenIn x) 0) true (bodyCoded (fixedIn x))) false) false)
+rowCoded x = pick (eqb x 0) true (classCoded (classIn x) && (coded (childrenIn x) && pick (eqb (childrenIn x) 0) true (bodyCoded (fixedIn x))))
 
 -- x is the row of the kind k
 pub record RowIs (k x : ℕ) : Type 0 where

@@ -5,7 +5,7 @@ use mathlib.Core.List.{List}
 use lib.ListN.{length}
 use Rattle.definitions.specs.Fields.{le}
 use Rattle.definitions.specs.Grammar.{Pattern, rows}
-use Rattle.definitions.specs.Records.{Value, Trees, rowIn, rowFields, pastAll, readValues, readRecords}
+use Rattle.definitions.specs.Records.{Value, Trees, rowIn, rowFields, fieldsEnd, readValues, readRecords}
 use Rattle.definitions.proofs.Sheets.Passed.{Fine}
 
 -- the records from `at` to `end` passed
@@ -21,7 +21,7 @@ abbrev pub stopOf : List ℕ → ℕ → ℕ
 stopOf s at = at + le 4 s at
 
 unfoldable pub bodyOf : List ℕ → ℕ → ℕ
-bodyOf s at = pastAll (rowFields (rowIn (kindOf s at) rows)) s (stopOf s at) (at + 6)
+bodyOf s at = fieldsEnd (rowFields (rowIn (kindOf s at) rows)) s (stopOf s at) (at + 6)
 
 unfoldable pub valuesOf : List ℕ → ℕ → List Value
 valuesOf s at = readValues (rowFields (rowIn (kindOf s at) rows)) s (stopOf s at) (at + 6)

@@ -1,12 +1,13 @@
 // The fixed fields of a record, by the digits of its row (`tables`).
 ghost use mathlib.Core.Path.{_≡_};
+ghost use mathlib.Core.Option.{none, some};
 ghost use Prim.Native.Nat.{_+_, _-_, _*_, _≤_, _<_};
 ghost use lib.Dec.{leb};
 ghost use lib.ListN.{length};
 ghost use Rattle.definitions.specs.Fields.{le};
 ghost use Rattle.definitions.specs.Grammar.{upTo, irType, single, counted, listed};
 ghost use Rattle.definitions.specs.Records.{pick, sizeOf, okType, okItem, okItems, past, pastAll};
-ghost use Rattle.sheet.specs.Codes.{fieldOf, fieldsOf, entryOf};
+ghost use Rattle.sheet.specs.Codes.{placeOf, fieldOf, fieldsOf, entryOf};
 use reader::read;
 
 // A name or an id: 65,535 is none.
@@ -78,8 +79,8 @@ fn entries_valid(s: &[u8], at: usize, count: usize, form: usize) -> bool
 
 // The place after a u16 of at most `most`, in a record that stops at `stop`; 0 if it does not fit or is not valid.
 fn past_u16(s: &[u8], at: usize, stop: usize, most: usize) -> usize
-    requires { ⌜ (at ≤ stop) × (stop ≤ length (now s)) ⌝ }
-    ensures { λ r. ⌜ r ≡ past (single (upTo most)) (now (s .entry)) stop at ⌝ }
+    requires { ⌜ (0 < at) × ((at ≤ stop) × (stop ≤ length (now s))) ⌝ }
+    ensures { λ r. ⌜ placeOf r ≡ past (single (upTo most)) (now (s .entry)) stop at ⌝ }
 {
     if stop - at < 2 {
         return 0;
@@ -89,8 +90,8 @@ fn past_u16(s: &[u8], at: usize, stop: usize, most: usize) -> usize
 
 // The same for a type.
 fn past_type(s: &[u8], at: usize, stop: usize) -> usize
-    requires { ⌜ (at ≤ stop) × (stop ≤ length (now s)) ⌝ }
-    ensures { λ r. ⌜ r ≡ past (single irType) (now (s .entry)) stop at ⌝ }
+    requires { ⌜ (0 < at) × ((at ≤ stop) × (stop ≤ length (now s))) ⌝ }
+    ensures { λ r. ⌜ placeOf r ≡ past (single irType) (now (s .entry)) stop at ⌝ }
 {
     if stop - at < 4 {
         return 0;
@@ -100,16 +101,16 @@ fn past_type(s: &[u8], at: usize, stop: usize) -> usize
 
 // The same for n bytes of any value.
 fn past_bytes(at: usize, stop: usize, n: usize) -> usize
-    requires { ⌜ at ≤ stop ⌝ }
-    ensures { λ r. ⌜ r ≡ pick (leb n (stop - at)) (at + n) 0 ⌝ }
+    requires { ⌜ (0 < at) × (at ≤ stop) ⌝ }
+    ensures { λ r. ⌜ placeOf r ≡ pick (leb n (stop - at)) (some (at + n)) none ⌝ }
 {
     if stop - at < n { 0 } else { at + n }
 }
 
 // The same for a count and so many entries.
 fn past_counted(s: &[u8], at: usize, stop: usize, form: usize) -> usize
-    requires { ⌜ (at ≤ stop) × (stop ≤ length (now s)) ⌝ }
-    ensures { λ r. ⌜ r ≡ past (counted (entryOf form)) (now (s .entry)) stop at ⌝ }
+    requires { ⌜ (0 < at) × ((at ≤ stop) × (stop ≤ length (now s))) ⌝ }
+    ensures { λ r. ⌜ placeOf r ≡ past (counted (entryOf form)) (now (s .entry)) stop at ⌝ }
 {
     if stop - at < 2 {
         return 0;
@@ -129,8 +130,8 @@ fn past_counted(s: &[u8], at: usize, stop: usize, form: usize) -> usize
 
 // The same for entries to the record's end.
 fn past_listed(s: &[u8], at: usize, stop: usize, form: usize) -> usize
-    requires { ⌜ (at ≤ stop) × (stop ≤ length (now s)) ⌝ }
-    ensures { λ r. ⌜ r ≡ past (listed (entryOf form)) (now (s .entry)) stop at ⌝ }
+    requires { ⌜ (0 < at) × ((at ≤ stop) × (stop ≤ length (now s))) ⌝ }
+    ensures { λ r. ⌜ placeOf r ≡ past (listed (entryOf form)) (now (s .entry)) stop at ⌝ }
 {
     let room = stop - at;
     let size = size_of(form);
@@ -146,8 +147,8 @@ fn past_listed(s: &[u8], at: usize, stop: usize, form: usize) -> usize
 
 // The same for a field by its digit.
 fn past_field(s: &[u8], at: usize, stop: usize, form: usize) -> usize
-    requires { ⌜ (at ≤ stop) × (stop ≤ length (now s)) ⌝ }
-    ensures { λ r. ⌜ r ≡ past (fieldOf form) (now (s .entry)) stop at ⌝ }
+    requires { ⌜ (0 < at) × ((at ≤ stop) × (stop ≤ length (now s))) ⌝ }
+    ensures { λ r. ⌜ placeOf r ≡ past (fieldOf form) (now (s .entry)) stop at ⌝ }
 {
     match form {
         1 => past_u16(s, at, stop, 65534),
@@ -170,7 +171,7 @@ fn past_field(s: &[u8], at: usize, stop: usize, form: usize) -> usize
 // The place after all fields of a code, or 0.
 pub(crate) fn past_fields(s: &[u8], at: usize, stop: usize, code: usize) -> usize
     requires { ⌜ (0 < at) × ((at ≤ stop) × ((stop ≤ length (now s)) × (code < 1048576))) ⌝ }
-    ensures { λ r. ⌜ (r ≡ pastAll (fieldsOf code) (now (s .entry)) stop at) × ((r ≤ stop) × ((r ≡ 0 → ⊥) → at ≤ r)) ⌝ }
+    ensures { λ r. ⌜ placeOf r ≡ pastAll (fieldsOf code) (now (s .entry)) stop at ⌝ }
 {
     let mut place = at;
     let mut left = code;

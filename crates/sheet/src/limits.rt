@@ -4,7 +4,7 @@ ghost use Prim.Native.Nat.{_≤_};
 ghost use lib.Dec.{eqb};
 ghost use lib.ListN.{length};
 ghost use Rattle.definitions.specs.Records.{pick, readRecords};
-ghost use Rattle.definitions.specs.ContractSheet.{countTrees, limitTrees};
+ghost use Rattle.definitions.specs.ContractSheet.{countTrees, noneBefore, limitTrees};
 ghost use Rattle.sheet.specs.Forms.{formOf};
 ghost use Rattle.sheet.specs.Limits.{tooMany, tooWide};
 ghost use Rattle.sheet.specs.Passed.{Passed, Standing, valuesOf, childrenOf};
@@ -49,7 +49,7 @@ fn one_if(kind: usize, counted: usize) -> usize
 // The records from `at` to `end`, at a depth.
 pub(crate) fn limits(s: &[u8], at: usize, end: usize, depth: usize) -> Form
     requires { ⌜ Passed (now s) at end × ((end ≤ length (now s)) × (depth ≤ 41)) ⌝ }
-    ensures { λ r. ⌜ formOf r ≡ limitTrees (readRecords (now (s .entry)) at end) depth 0 0 0 ⌝ }
+    ensures { λ r. ⌜ formOf r ≡ limitTrees (readRecords (now (s .entry)) at end) depth noneBefore ⌝ }
 {
     let mut place = at;
     let mut storage = 0;

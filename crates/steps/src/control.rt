@@ -14,7 +14,6 @@ use exprs::lower_expr_value;
 use flow::Flow;
 use flow::Made;
 use flow::blocks::after;
-use flow::blocks::at as at_place;
 use flow::blocks::branch;
 use flow::blocks::init_local;
 use flow::blocks::jump;

@@ -1,8 +1,7 @@
 // Statements: `lower_stmt` recurses into arms and bodies, and the depth left falls. Scopes go by value: leaving one is using the value
 // from before it.
 ghost use mathlib.Core.Path.{_≡_};
-ghost use mathlib.Core.List.{List};
-ghost use Prim.Native.Nat.{ℕ, _≤_};
+ghost use Prim.Native.Nat.{_≤_};
 ghost use Rattle.definitions.specs.ContractSheet.{readContract};
 ghost use Rattle.definitions.specs.Grammar.{Class};
 ghost use Rattle.sheet.specs.Passed.{kindOf};

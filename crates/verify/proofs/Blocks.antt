@@ -1,26 +1,24 @@
 -- The results of a function's instructions are defined one after the other. Assumes nothing.
 use mathlib.Core.Path.{_≡_, refl, ap, ap₂, sym, _∙_, subst}
-use mathlib.Core.Bool.{Bool, true, false}
 use mathlib.Core.List.{List, [], _∷_, _++_, append-assoc, append-nil}
-use mathlib.Core.Option.{Option, none, some}
-use Prim.Native.Nat.{ℕ, zero, suc, _+_, _-_, _*_, _≤_, _<_}
+use mathlib.Core.Option.{Option}
+use Prim.Native.Nat.{ℕ, zero, suc, _+_, _-_, _<_}
 use native.Mathlib.Nat.{not-suc-le-zero}
 use native.Mathlib.Omega.{arith}
 use lib.Dec.{leb}
-use lib.ListN.{length}
 use borrow.Author.Tests.{le-leb, lt-leb}
-use Rattle.definitions.specs.Result.{Result, err, ok, _>>=_, _>>_, Done}
+use Rattle.definitions.specs.Result.{Result, err, ok, _>>=_, Done}
 use Rattle.definitions.specs.Fields.{le}
 use Rattle.definitions.specs.Ir.{Instruction, InstrNode, BasicBlock}
 use Rattle.definitions.specs.Grammar.{Class, many, done}
-use Rattle.definitions.specs.Records.{pick, optFrom, Trees, tnil, tcons, node, readRecords, gather}
+use Rattle.definitions.specs.Records.{optFrom, readRecords, gather}
 use Rattle.definitions.specs.ProgramSheet.{instrNodeOf, blockOf}
 use Rattle.definitions.specs.Verify.{VerifyError, Checked, Defined, defineResult, defineResults, defineBlocks}
 use Rattle.definitions.proofs.Results.{ok-inj, err-ok, taking}
 use Rattle.definitions.proofs.Sheets.Passed.{Fine, read-end}
 use Rattle.verify.specs.Answers.{named}
-use Rattle.verify.specs.Positions.{instrHere, instrsHere, terminatorHere, blockHere, blocksHere, paramsHere, firstBlock, BlockFrom, FunctionAt}
-use Rattle.verify.specs.Entries.{Entry, paramEntries, resultEntry, blockEntries, blocksEntries, entriesHere, Same}
+use Rattle.verify.specs.Positions.{instrHere, instrsHere, terminatorHere, blockHere, blocksHere, BlockFrom}
+use Rattle.verify.specs.Entries.{Entry, resultEntry, blockEntries, blocksEntries, Same}
 use Rattle.verify.proofs.Walk.{InstrStep, TermStep, AtRecord, at-end, at-instr, at-term, at-record, BlockStep, AtBlock, no-block, at-block, at-blocks}
 use Rattle.verify.proofs.Entries.{instr-entries, term-entries, end-entries, blocks-entries, no-blocks}
 use Rattle.verify.proofs.Scan.{result-same}

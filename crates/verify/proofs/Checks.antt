@@ -1,27 +1,25 @@
 -- What is left of the second pass over a function, record by record and block by block. Assumes nothing.
 use mathlib.Core.Path.{_≡_, refl, ap, ap₂, sym, _∙_, subst}
-use mathlib.Core.Bool.{Bool, true, false}
-use mathlib.Core.List.{List, [], _∷_, _++_}
+use mathlib.Core.List.{List}
 use mathlib.Core.Option.{Option, none, some}
-use Prim.Native.Nat.{ℕ, _+_, _-_, _*_, _≤_, _<_}
+use Prim.Native.Nat.{ℕ, _+_, _≤_}
 use native.Mathlib.Omega.{arith}
-use lib.Dec.{leb, eqb}
+use lib.Dec.{leb}
 use lib.ListN.{length}
 use borrow.Author.Tests.{le-leb, lt-leb}
 use Rattle.definitions.specs.Result.{Result, err, ok, _>>=_, _>>_, okOrElse, mapErr, Done}
 use Rattle.definitions.specs.Fields.{le}
-use Rattle.definitions.specs.Ir.{IrType, Instruction, Terminator, InstrNode, BasicBlock, IrFunction}
-use Rattle.definitions.specs.Grammar.{Class, many, done}
-use Rattle.definitions.specs.Records.{pick, Trees, readRecords, gather}
+use Rattle.definitions.specs.Ir.{Terminator, IrFunction}
+use Rattle.definitions.specs.Records.{Trees, gather}
 use Rattle.definitions.specs.ProgramSheet.{termOf, firstOf}
-use Rattle.definitions.specs.Verify.{VerifyError, Checked, Defined, defineParams, defineBlocks, blockIds, verifyInstr, verifyInstrs, verifyTerminator, verifyBlock, verifyBlocks, verifyFunction}
-use Rattle.definitions.proofs.Results.{ok-inj, err-ok}
-use Rattle.definitions.proofs.Sheets.Passed.{Fine, read-end}
+use Rattle.definitions.specs.Verify.{VerifyError, Checked, Defined, blockIds, verifyInstr, verifyInstrs, verifyTerminator, verifyBlock, verifyBlocks}
+use Rattle.definitions.proofs.Results.{err-ok}
+use Rattle.definitions.proofs.Sheets.Passed.{read-end}
 use Rattle.verify.specs.Answers.{named}
-use Rattle.verify.specs.Positions.{typeHere, instrHere, sizeHere, instrsHere, termHere, terminatorHere, blockHere, blocksHere, functionHere, firstBlock, BlockFrom, FunctionAt, InstrPlace, TermPlace}
+use Rattle.verify.specs.Positions.{typeHere, instrHere, sizeHere, instrsHere, termHere, terminatorHere, blockHere, blocksHere, functionHere, firstBlock, InstrPlace, TermPlace}
 use Rattle.verify.proofs.Records.{placed}
 use Rattle.verify.proofs.Walk.{InstrStep, TermStep, BlockStep}
-use Rattle.verify.proofs.Blocks.{failed, passed, goes-on, instrs-step, instrs-term, instrs-end, blocks-step, blocks-end}
+use Rattle.verify.proofs.Blocks.{failed, passed, instrs-step, instrs-term, instrs-end, blocks-step, blocks-end}
 
 -- `failed` and `goes-on` for a part that gives nothing
 pub failed-then : {A B : Type 0} {x : ℕ × VerifyError} (f : ℕ) (r : Checked A) (k : Checked B) → err x ≡ named f r → err x ≡ named f (r >> k)

@@ -15,12 +15,12 @@ use Rattle.definitions.specs.All.{All, anil, acons}
 use Rattle.definitions.specs.Fields.{le}
 use Rattle.definitions.specs.Ir.{IrType, Instruction, resultType}
 use Rattle.definitions.specs.Grammar.{Class, valueAndType, many, done}
-use Rattle.definitions.specs.Records.{pick, Item, okType, okItem, okItems, optFrom, numberOf, typeOf, readItem, readItems, sizeOf, Tree, node, Trees, tnil, tcons, readRecords}
+use Rattle.definitions.specs.Records.{pick, Item, okType, okItem, okItems, optFrom, numberOf, typeOf, readItem, readItems, sizeOf, readRecords}
 use Rattle.definitions.proofs.Sheets.Passed.{Fine, read-end}
-use Rattle.definitions.proofs.Sheets.Reads.{both-true}
-use Rattle.verify.specs.Positions.{rawOpt, typeHere, instrHere, paramsHere, localsAt, firstBlock, FunctionAt, BlockFrom, InstrPlace}
-use Rattle.verify.specs.Entries.{Entry, paramEntries, resultEntry, treeEntries, blockEntries, blocksEntries, entriesHere, firstEntry, placeOf, typeOfEntry, firstPlace, firstType}
-use Rattle.verify.proofs.Records.{InstrAt, placed}
+use Rattle.definitions.proofs.Sheets.Passed.{both-true}
+use Rattle.verify.specs.Positions.{rawOpt, typeHere, instrHere, paramsHere, firstBlock, FunctionAt, BlockFrom, InstrPlace}
+use Rattle.verify.specs.Entries.{Entry, paramEntries, resultEntry, blockEntries, blocksEntries, entriesHere, firstEntry, placeOf, typeOfEntry, firstPlace, firstType}
+use Rattle.verify.proofs.Records.{placed}
 use Rattle.verify.proofs.Types.{raw-here}
 use Rattle.verify.proofs.Walk.{InstrStep, TermStep, AtRecord, at-end, at-instr, at-term, at-record, BlockStep, AtBlock, no-block, at-block, at-blocks}
 

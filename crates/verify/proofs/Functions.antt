@@ -1,11 +1,9 @@
 -- A function's check from its three parts, and a program's from its functions. Assumes nothing.
 use mathlib.Core.Path.{_≡_, refl, ap, sym, _∙_, subst}
-use mathlib.Core.List.{List, [], _∷_, _++_}
-use Prim.Native.Nat.{ℕ, suc, _+_, _-_, _*_, _≤_, _<_}
+use mathlib.Core.List.{List, [], _∷_}
+use Prim.Native.Nat.{ℕ, suc, _+_, _-_, _*_}
 use native.Mathlib.Omega.{arith}
-use lib.ListN.{length}
-use borrow.Author.Tests.{eq-eqb}
-use Rattle.definitions.specs.Result.{Result, err, ok, _>>=_, _>>_, mapErr, Done}
+use Rattle.definitions.specs.Result.{Result, err, ok, _>>_, mapErr, Done}
 use Rattle.definitions.specs.Fields.{le}
 use Rattle.definitions.specs.Ir.{IrFunction}
 use Rattle.definitions.specs.Records.{readRecords, gather}
@@ -13,12 +11,12 @@ use Rattle.definitions.specs.ProgramSheet.{functionOf}
 use Rattle.definitions.specs.Verify.{VerifyError, Checked, Defined, defineParams, defineBlocks, verifyBlocks, verifyFunction, verifyFunctions}
 use Rattle.definitions.proofs.Results.{err-ok}
 use Rattle.verify.specs.Answers.{named}
-use Rattle.verify.specs.Positions.{paramsHere, localsAt, firstBlock, blocksHere, functionHere, functionsHere, idsOfAll, FunctionAt}
-use Rattle.verify.specs.Entries.{paramEntries, blocksEntries, entriesHere, Same}
+use Rattle.verify.specs.Positions.{paramsHere, firstBlock, blocksHere, functionHere, functionsHere, idsOfAll, FunctionAt}
+use Rattle.verify.specs.Entries.{paramEntries, entriesHere, Same}
 use Rattle.verify.proofs.Walk.{FunctionStep}
 use Rattle.verify.proofs.Params.{all-params-same}
 use Rattle.verify.proofs.Blocks.{failed, passed, blocks-same}
-use Rattle.verify.proofs.Checks.{failed-then, passed-then, mapped}
+use Rattle.verify.proofs.Checks.{mapped}
 
 -- the first block by the two counts that were read
 pub first-is : (s : List ℕ) (at x y : ℕ) → x ≡ le 2 s (at + 14) → y ≡ le 2 s (at + 16 + 6 * x) → at + 16 + 6 * x + 2 + 4 * y ≡ firstBlock s at

@@ -3,18 +3,16 @@ use mathlib.Core.Path.{_≡_, refl, ap, sym, _∙_}
 use mathlib.Core.Bool.{Bool, true, false}
 use mathlib.Core.List.{List, [], _∷_}
 use Prim.Native.Nat.{ℕ, zero, suc, _+_, _*_, _≤_, _<_}
-use native.Mathlib.Omega.{arith}
 use lib.ListN.{length}
 use borrow.Author.Tests.{eq-eqb, ne-eqb, lt-ltb, le-ltb}
 use Rattle.definitions.specs.Result.{Result, err, ok, check}
 use Rattle.definitions.specs.Fields.{le}
 use Rattle.definitions.specs.Ir.{IrFunction, contains}
-use Rattle.definitions.specs.Grammar.{Class, Pattern, irType, done, many}
-use Rattle.definitions.specs.Records.{Trees, tcons, node, gather, readRecords, readItems, sizeOf}
+use Rattle.definitions.specs.Grammar.{Class, irType, done, many}
+use Rattle.definitions.specs.Records.{Trees, gather, readItems, sizeOf}
 use Rattle.definitions.specs.ProgramSheet.{blockOf, functionOf}
 use Rattle.definitions.specs.Verify.{VerifyError, blockIds, functionIds, checkBlockRef, checkLocalRef}
 use Rattle.definitions.proofs.Sheets.Passed.{Fine, read-end}
-use Rattle.definitions.proofs.Sheets.Steps.{low}
 use Rattle.verify.specs.Answers.{named}
 use Rattle.verify.specs.Positions.{blocksHere, functionsHere, typesHere, localsAt}
 use Rattle.verify.proofs.Walk.{BlockStep, FunctionStep, no-functions}

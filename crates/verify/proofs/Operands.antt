@@ -13,7 +13,6 @@ use Rattle.definitions.specs.Ast.{BinOp}
 use Rattle.definitions.specs.Ir.{IrType, eqType, Instruction, Terminator}
 use Rattle.definitions.specs.Records.{okType, optFrom, typeFrom}
 use Rattle.definitions.specs.Verify.{VerifyError, Checked, Defined, definedType, checkValueRef, checkBlockRef, verifyInstr, verifyTerminator}
-use Rattle.definitions.proofs.Results.{err-ok}
 use Rattle.verify.specs.Answers.{named}
 use Rattle.verify.specs.Positions.{rawType, rawOpt, fromRaw, typeHere}
 use Rattle.verify.specs.Entries.{checkCondition, Entry, firstType, Same}

@@ -1,21 +1,20 @@
 -- The parameters of a function are defined one after the other. Assumes nothing.
 use mathlib.Core.Path.{_≡_, refl, ap, sym, _∙_, subst}
-use mathlib.Core.Bool.{Bool, true, false}
+use mathlib.Core.Bool.{true}
 use mathlib.Core.List.{List, [], _∷_, _++_, append-assoc, append-nil}
 use mathlib.Core.Option.{Option, none, some}
 use Prim.Native.Nat.{ℕ, zero, suc, _+_, _-_, _*_, _≤_, _<_}
 use native.Mathlib.Nat.{not-suc-le-zero}
 use native.Mathlib.Numerals.{sub-one}
 use native.Mathlib.Omega.{arith}
-use lib.ListN.{length}
-use Rattle.definitions.specs.Result.{Result, err, ok}
+use Rattle.definitions.specs.Result.{err, ok}
 use Rattle.definitions.specs.Fields.{le}
 use Rattle.definitions.specs.Ir.{IrType}
 use Rattle.definitions.specs.Grammar.{valueAndType}
-use Rattle.definitions.specs.Records.{pick, okItem, okItems, readRecords, readItems, readItem, sizeOf}
+use Rattle.definitions.specs.Records.{okItem, okItems, readRecords, readItems, readItem, sizeOf}
 use Rattle.definitions.specs.Verify.{VerifyError, Defined, definedType, insert, defineParams}
 use Rattle.definitions.proofs.Results.{ok-inj, err-ok}
-use Rattle.definitions.proofs.Sheets.Reads.{both-true}
+use Rattle.definitions.proofs.Sheets.Passed.{both-true}
 use Rattle.verify.specs.Answers.{named}
 use Rattle.verify.specs.Positions.{typeHere, paramsHere, localsAt, firstBlock, FunctionAt}
 use Rattle.verify.specs.Entries.{Entry, paramEntries, blocksEntries, entriesHere, firstEntry, firstPlace, Same}

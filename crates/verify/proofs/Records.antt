@@ -1,18 +1,17 @@
 -- The records of a program sheet that passed, by position. Assumes nothing.
-use mathlib.Core.Path.{_≡_, refl, ap, sym, _∙_, subst}
-use mathlib.Core.Bool.{Bool, true, false}
+use mathlib.Core.Path.{_≡_, refl, ap, _∙_}
+use mathlib.Core.Bool.{true, false}
 use mathlib.Core.List.{List, [], _∷_, _++_, map}
-use mathlib.Core.Option.{Option, none, some}
-use Prim.Native.Nat.{ℕ, _+_, _-_, _*_, _/_, _%_, _≤_, _<_}
+use Prim.Native.Nat.{ℕ, _+_, _≤_}
 use native.Mathlib.Omega.{arith}
-use lib.Dec.{leb, eqb, lit≤}
+use lib.Dec.{lit≤}
 use lib.ListN.{length}
 use Rattle.definitions.specs.Fields.{le}
 use Rattle.definitions.specs.Ir.{resultType}
 use Rattle.definitions.specs.InstrTable.{kindRow, kindOf}
 use Rattle.ir.specs.Kinds.{ruleNumber}
-use Rattle.definitions.specs.Grammar.{Class, Entry, upTo, optional, number, irType, Field, single, listed, Pattern, done, many, rows}
-use Rattle.definitions.specs.Records.{Value, item, rest, okType, okItem, optFrom, readItem, readItems, readValue, sizeOf, pastAll, readValues, row, rowIn, optAt}
+use Rattle.definitions.specs.Grammar.{Class, Entry, upTo, optional, number, irType, Field, single, listed, Pattern, done, rows}
+use Rattle.definitions.specs.Records.{Value, okType, okItem, optFrom, readItem, readValue, sizeOf, readValues, optAt}
 use Rattle.definitions.specs.ProgramSheet.{instrOf}
 use Rattle.definitions.proofs.Sheets.Passed.{Head}
 use Rattle.definitions.proofs.Sheets.Lines.{OfRows, Given, by-lines}

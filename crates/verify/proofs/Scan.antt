@@ -1,30 +1,29 @@
 -- The table of defined values, entry by entry: a value is new exactly if the search gives its own place. Assumes nothing.
-use mathlib.Core.Path.{_≡_, refl, ap, ap₂, sym, _∙_, subst}
+use mathlib.Core.Path.{_≡_, refl, ap, sym, _∙_, subst}
 use mathlib.Core.Bool.{Bool, true, false}
 use mathlib.Core.List.{List, [], _∷_, _++_, append-assoc, append-nil}
 use mathlib.Core.Option.{Option, none, some}
 use Prim.Native.Nat.{ℕ, zero, suc, _+_, _-_, _*_, _≤_, _<_}
 use native.Mathlib.Nat.{not-suc-le-zero}
 use native.Mathlib.Omega.{arith}
-use lib.Dec.{leb, eqb}
-use lib.ListN.{length}
-use borrow.Author.Tests.{eqb-true, eqb-false, eq-eqb, ne-eqb}
+use lib.Dec.{eqb}
+use borrow.Author.Tests.{eqb-true, eq-eqb, ne-eqb}
 use Rattle.definitions.specs.All.{All, anil, acons}
 use Rattle.definitions.specs.Result.{Result, err, ok}
 use Rattle.definitions.specs.Fields.{le}
 use Rattle.definitions.specs.Ir.{IrType, Instruction, resultType}
-use Rattle.definitions.specs.Grammar.{Class, many, done, valueAndType}
-use Rattle.definitions.specs.Records.{pick, optFrom, readRecords, readItems, readItem, sizeOf}
+use Rattle.definitions.specs.Grammar.{Class, many, done}
+use Rattle.definitions.specs.Records.{optFrom, readRecords, readItems, readItem, sizeOf}
 use Rattle.definitions.specs.InstrTable.{kindOf}
-use Rattle.definitions.specs.Verify.{VerifyError, Defined, definedType, insert, defineParams, defineResult, defineResults, defineBlocks}
+use Rattle.definitions.specs.Verify.{VerifyError, Defined, definedType, insert, defineResult}
 use Rattle.definitions.proofs.Results.{ok-inj, err-ok}
 use Rattle.definitions.proofs.Sheets.Passed.{Fine}
 use Rattle.definitions.proofs.Sheets.Steps.{low}
 use Rattle.verify.specs.Answers.{named}
 use Rattle.verify.specs.Positions.{rawOpt, instrHere, paramsHere, firstBlock, FunctionAt, BlockFrom}
-use Rattle.verify.specs.Entries.{Entry, paramEntries, resultEntry, blockEntries, blocksEntries, entriesHere, firstEntry, placeOf, typeOfEntry, firstPlace, firstType, Agree, Same}
+use Rattle.verify.specs.Entries.{Entry, paramEntries, resultEntry, blockEntries, blocksEntries, entriesHere, firstEntry, placeOf, firstPlace, Agree, Same}
 use Rattle.verify.proofs.Types.{raw-some}
-use Rattle.verify.proofs.Walk.{InstrStep, TermStep, AtRecord, at-end, at-instr, at-term, at-record, BlockStep, AtBlock, no-block, at-block, at-blocks}
+use Rattle.verify.proofs.Walk.{AtRecord, at-end, at-instr, at-term, at-record, AtBlock, no-block, at-block, at-blocks}
 use Rattle.verify.proofs.Entries.{orElse, first-append, first-has, paramsFrom, instr-entries, term-entries, end-entries, blocks-entries, no-blocks}
 
 -- ASCENDING PLACES

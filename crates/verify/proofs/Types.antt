@@ -1,15 +1,15 @@
 -- Types as numbers of four bytes. Assumes nothing.
-use mathlib.Core.Path.{_≡_, refl, ap, ap₂, sym, _∙_}
-use mathlib.Core.Bool.{Bool, true, false, _&&_}
+use mathlib.Core.Path.{_≡_, refl, ap₂, sym, _∙_}
+use mathlib.Core.Bool.{Bool, true, false}
 use mathlib.Core.List.{List}
-use Prim.Native.Nat.{ℕ, zero, suc, _+_, _-_, _*_, _/_, _%_, _^_, _≤_, _<_}
+use Prim.Native.Nat.{ℕ, _+_, _*_, _/_, _%_, _≤_, _<_}
 use native.Mathlib.Omega.{arith}
 use lib.Dec.{leb, eqb, lit<}
 use borrow.Author.Tests.{eqb-true, eqb-false, eq-eqb, ne-eqb, leb-true}
 use Rattle.definitions.specs.Fields.{le}
 use Rattle.definitions.specs.Ir.{IrType, tagOf, nameOf, eqType, unlessVoid}
 use Rattle.definitions.specs.Records.{pick, typeFrom, okType}
-use Rattle.definitions.proofs.Sheets.Passed.{picked}
+use Rattle.definitions.proofs.Sheets.Passed.{both-true}
 use Rattle.verify.specs.Positions.{rawType, rawOpt, typeHere}
 
 -- four bytes are two and two
@@ -22,11 +22,7 @@ unfolding okType typeFrom
 raw-from t n e = go (eqb t 0) refl
   where
     other : (z : eqb t 3 ≡ false) → (t ≤ 4) × (n ≡ 0)
-    other z = two (leb t 4) refl (rw z at e)
-      where
-        two : (b : Bool) → leb t 4 ≡ b → pick b (eqb n 0) false ≡ true → (t ≤ 4) × (n ≡ 0)
-        two true q f = (leb-true t 4 q, eqb-true n 0 f)
-        two false q f = absurd (let y : _≡_ {A = ℕ} 0 1 = cc in omega arith)
+    other z = let b = both-true (leb t 4) _ (rw z at e) in (leb-true t 4 (b .0), eqb-true n 0 (b .1))
 
     three : (b : Bool) → eqb t 3 ≡ b → (t ≡ 0 → ⊥) → (t ≡ 1 → ⊥) → (t ≡ 2 → ⊥) → rawType (pick b (IrType.Struct n) IrType.Void) ≡ t + 65536 * n
     three true z h i j = omega (arith, eqb-true t 3 z)

@@ -2,23 +2,20 @@
 use mathlib.Core.Path.{_≡_, refl, ap, sym, _∙_, subst}
 use mathlib.Core.Bool.{Bool, true, false}
 use mathlib.Core.List.{List, [], _∷_, _++_, map}
-use mathlib.Core.Option.{Option, none, some}
-use Prim.Native.Nat.{ℕ, _+_, _-_, _*_, _≤_, _<_}
+use Prim.Native.Nat.{ℕ, _+_, _*_, _≤_, _<_}
 use native.Mathlib.Omega.{arith}
 use lib.Dec.{leb, eqb, lit≤}
 use lib.ListN.{length}
-use borrow.Author.Tests.{le-leb, lt-leb}
 use Rattle.definitions.specs.Fields.{le}
-use Rattle.definitions.specs.Ir.{InstrNode, Terminator, BasicBlock, IrFunction}
 use Rattle.definitions.specs.Grammar.{Class, classNo, Entry, upTo, optional, irType, valueAndType, Field, single, counted, Pattern, done, one, perhaps, many, rows}
-use Rattle.definitions.specs.Records.{pick, Next, left, after, Value, group, readItems, okType, okItem, okItems, optFrom, readItem, readValue, sizeOf, pastAll, readValues, row, rowIn, optAt, Tree, node, Trees, tnil, tcons, readRecords, gather, Good, checkRecords}
-use Rattle.definitions.specs.ProgramSheet.{instrNodeOf, termOf, blockOf, functionOf, functionNameOf, programOf, readProgram, refusal40}
+use Rattle.definitions.specs.Records.{pick, left, after, Value, okType, okItem, okItems, readItem, readValue, sizeOf, fieldEnd, fieldsEnd, readValues, row, node, Trees, tnil, tcons, readRecords, gather, Good, checkRecords}
+use Rattle.definitions.specs.ProgramSheet.{termOf, blockOf, functionOf, programOf, readProgram, refusal40}
 use Rattle.definitions.proofs.Results.{by-test}
 use Rattle.definitions.proofs.Sheets.Passed.{Head, Fine, ends, goes, fine, read-end, read-step}
 use Rattle.definitions.proofs.Sheets.Lines.{OfRows, Given, by-lines, same-class, not-left}
 use Rattle.definitions.proofs.Sheets.Singles.{itemsFrom, after as afterAll, Valid, Starts, starts, Counted, counted-field}
 use Rattle.definitions.proofs.Sheets.Steps.{Step, here, past, many-step, perhaps-step, One, this, one-step, done-ends, low}
-use Rattle.verify.specs.Positions.{typeHere, instrHere, sizeHere, termHere, paramsHere, localsAt, firstBlock, typesHere, blocksHere, functionHere, functionsHere, FunctionAt, BlockFrom, BlocksFrom, BlockEnds, InstrPlace}
+use Rattle.verify.specs.Positions.{typeHere, sizeHere, termHere, paramsHere, localsAt, firstBlock, typesHere, blocksHere, functionHere, functionsHere, FunctionAt, BlockFrom, BlocksFrom, BlockEnds, InstrPlace}
 use Rattle.verify.proofs.Records.{InstrAt, instr-at}
 
 -- TERMINATORS
@@ -159,7 +156,7 @@ module _ (s : List ℕ) (q end b stop : ℕ) where
   B c k fs p = Head s q end c fs p b stop → (k ≡ 53) × (p ≡ many Class.instruction (perhaps Class.terminator done)) × (b ≡ q + 8) × ((x : ℕ) (ts : Trees) → blockOf (node x k (readValues fs s stop (q + 6)) ts) .id ≡ le 2 s (q + 6))
 
   block-row : OfRows B Class.basicBlock rows
-  unfolding Given rows itemsFrom readItem afterAll sizeOf readValues pastAll
+  unfolding Given rows itemsFrom readItem afterAll sizeOf readValues fieldsEnd
   block-row =
       by-lines B Class.basicBlock rows
       (λ hd.
@@ -225,20 +222,17 @@ module _ (s : List ℕ) (at end b stop : ℕ) where
   F c k fs p = Head s at end c fs p b stop → (p ≡ many Class.basicBlock done) × Row51 k (readValues fs s stop (at + 6))
 
   function-row : OfRows F Class.irFunction rows
-  unfolding Given rows itemsFrom readItem afterAll sizeOf readValues pastAll Valid okItem paramsHere typeHere typesHere
+  unfolding Given rows itemsFrom readItem afterAll sizeOf fieldEnd readValue readValues fieldsEnd Valid okItem paramsHere typeHere typesHere
   function-row =
       by-lines F Class.irFunction rows
       (λ hd.
       let fs : List Field = counted valueAndType ∷ counted irType ∷ [] in
       let es : List Entry = upTo 65534 ∷ upTo 65534 ∷ irType ∷ [] in
       let S : Starts es fs s at b stop = starts es fs hd in
-      let C : Counted valueAndType (counted irType ∷ []) s stop (at + 14) = counted-field valueAndType (counted irType ∷ []) s stop (at + 14) (S .more) in
+      let C : Counted valueAndType (counted irType ∷ []) s stop (at + 14) b = counted-field valueAndType (counted irType ∷ []) s stop (at + 14) (S .more) in
       let e : at + 14 + 2 ≡ at + 16 = omega arith in
       let f : at + 14 + 2 + 6 * le 2 s (at + 14) ≡ localsAt s at = omega arith in
-      let D : Counted irType [] s stop (localsAt s at) = counted-field irType [] s stop (localsAt s at) (rw f at (C .more)) in
-      let w : pastAll fs s stop (at + 14) ≡ firstBlock s at = C .past ∙ (ap (pastAll (counted irType ∷ []) s stop) f ∙ D .past) in
-      let v = S .values ∙ ap (λ (l : List Value). itemsFrom es s at 6 ++ l) (C .values ∙ ap (λ (l : List Value). group (readItems valueAndType (le 2 s (at + 14)) s (at + 14 + 2)) ∷ l) (ap (readValues (counted irType ∷ []) s stop) f ∙ D .values)) in
-      let body : b ≡ firstBlock s at = S .body ∙ w in (
+      let body : b ≡ firstBlock s at = S .body ∙ ap (λ (x : ℕ). x + 2 + 4 * le 2 s x) f in (
         refl,
         record {
           kind = refl;
@@ -246,7 +240,7 @@ module _ (s : List ℕ) (at end b stop : ℕ) where
           low = omega (arith, body);
           params = rw e at (C .valid);
           returns = S .valid .1 .1 .0;
-          is = λ ts. ap (λ (x : List Value). functionOf (node at 51 x ts)) v ∙ rw e refl;
+          is = λ ts. ap (λ (x : List Value). functionOf (node at 51 x ts)) (S .values) ∙ rw (f, e) refl;
         },
       ))
 
@@ -332,14 +326,14 @@ pub record ProgramAt (s : List ℕ) : Type 0 where
   pub functions : readProgram s .functions ≡ gather 51 51 functionOf (readRecords s 6 (length s))
 
 pub program-at : (s : List ℕ) → refusal40 s ≡ Good → ProgramAt s
-unfolding refusal40 checkRecords readProgram pastAll
+unfolding refusal40 checkRecords readProgram fieldsEnd
 program-at s e = go (one-step Class.program done (fine _ s 0 (length s) _ e))
   where
     go : One s 0 (length s) Class.program done → ProgramAt s
     go (this {fs = fs} {q = q} {b = b} {stop = stop} hd kids more) =
         let r = program-row (le 2 s (0 + 4)) fs q (hd .is) in
         let z : stop ≡ length s = done-ends more in
-        let w : b ≡ 6 = subst (λ (x : List Field). b ≡ pastAll x s stop (0 + 6)) (r .0) (hd .body-is) in
+        let w : b ≡ 6 = subst (λ (x : List Field). b ≡ fieldsEnd x s stop (0 + 6)) (r .0) (hd .body-is) in
         record {
           records = subst (λ (x : ℕ). Fine s 6 x (many Class.irFunction (many Class.functionName done))) z (subst (λ (x : ℕ). Fine s x stop (many Class.irFunction (many Class.functionName done))) w (subst (λ (p : Pattern). Fine s b stop p) (r .1) kids));
           functions = ap (λ (x : Trees). programOf x .functions) (read-step hd kids more) ∙ (ap (λ (x : ℕ). gather 51 51 functionOf (readRecords s x stop)) w ∙ ap (λ (x : ℕ). gather 51 51 functionOf (readRecords s 6 x)) z);

@@ -1,16 +1,16 @@
 -- The answer to a sheet: too long, malformed, or what the functions give. Assumes nothing.
-use mathlib.Core.Path.{_≡_, refl, ap, ap₂, sym, _∙_, subst}
+use mathlib.Core.Path.{_≡_, ap, sym}
 use mathlib.Core.List.{List, [], _∷_}
-use Prim.Native.Nat.{ℕ, _+_, _≤_, _<_}
+use Prim.Native.Nat.{ℕ, _≤_, _<_}
 use lib.Dec.{leb}
 use lib.ListN.{length}
 use borrow.Author.Tests.{le-leb, lt-leb}
 use Rattle.definitions.specs.Result.{Result, err, ok, Done}
 use Rattle.definitions.specs.Ir.{IrFunction}
-use Rattle.definitions.specs.Records.{Form, Good, Bad}
+use Rattle.definitions.specs.Records.{Good, Bad}
 use Rattle.definitions.specs.ProgramSheet.{readProgram, refusal40}
 use Rattle.definitions.specs.Verify.{VerifyError, functionIds, verifyFunctions, verifyProgram}
-use Rattle.definitions.specs.Answers.{Answer, refusal, verifyRefusal, verifySheet}
+use Rattle.definitions.specs.Answers.{refusal, verifyRefusal, verifySheet}
 use Rattle.verify.specs.Positions.{functionsHere, idsOfAll, FunctionsFrom}
 use Rattle.verify.proofs.Walk.{program-at}
 

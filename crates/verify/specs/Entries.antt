@@ -2,12 +2,11 @@
 -- Assumes nothing: these are definitions.
 use Prim.Native.Nat.{ℕ, _+_}
 use mathlib.Core.Path.{_≡_}
-use mathlib.Core.Bool.{Bool, true, false}
 use mathlib.Core.List.{List, [], _∷_, _++_}
 use mathlib.Core.Option.{Option, none, some}
 use lib.Dec.{leb, eqb}
 use Rattle.definitions.specs.Result.{_>>=_, check, Done}
-use Rattle.definitions.specs.Ir.{IrType, eqType, Instruction, resultType, InstrNode}
+use Rattle.definitions.specs.Ir.{IrType, eqType, Instruction, resultType}
 use Rattle.definitions.specs.Records.{pick, Tree, node, Trees, tnil, tcons, readRecords}
 use Rattle.definitions.specs.ProgramSheet.{instrNodeOf}
 use Rattle.definitions.specs.Verify.{VerifyError, Checked, Defined, definedType, checkValueRef}

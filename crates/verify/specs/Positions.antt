@@ -2,13 +2,12 @@
 -- Helpers of this crate's proofs: no public promise cites them. Assumes nothing: these are definitions.
 use Prim.Native.Nat.{ℕ, _+_, _-_, _*_, _/_, _%_, _≤_, _<_}
 use mathlib.Core.Path.{_≡_}
-use mathlib.Core.Bool.{Bool, true, false, _&&_}
-use mathlib.Core.List.{List, [], _∷_, map}
+use mathlib.Core.Bool.{Bool, true, _&&_}
+use mathlib.Core.List.{List, map}
 use mathlib.Core.Option.{Option, none, some}
 use lib.Dec.{leb, eqb}
 use lib.ListN.{length}
 use Rattle.definitions.specs.Fields.{le}
-use Rattle.definitions.specs.Ast.{BinOp}
 use Rattle.definitions.specs.Ir.{IrType, tagOf, nameOf, unlessVoid, Instruction, resultType, Terminator, InstrNode, BasicBlock, IrFunction}
 use Rattle.definitions.specs.Grammar.{Class, upTo, irType, valueAndType, done, perhaps, many}
 use Rattle.definitions.specs.Records.{pick, Item, okType, okItems, numberOf, typeOf, typeFrom, optFrom, readItems, readRecords, gather}

@@ -1,7 +1,6 @@
 // Verifying (`ir/verify.rs`): a program sheet to the verifier's answer.
 ghost use mathlib.Core.Path.{_≡_};
-ghost use mathlib.Core.Bool.{Bool, true, false};
-ghost use mathlib.Core.List.{List, [], _∷_};
+ghost use mathlib.Core.List.{List, []};
 ghost use Prim.Native.Nat.{ℕ, _+_, _-_, _*_, _/_, _%_, _^_, _≤_, _<_};
 ghost use lib.ListN.{length};
 ghost use Rattle.definitions.specs.Answers.{verifySheet};
@@ -106,7 +105,7 @@ fn find_param(s: &[u8], at: usize, v: u16) -> usize
     0
 }
 
-// The place of the first instruction from q on, in the block that stops at `end`, whose result is v; 0 if there is none.
+// The place of the first instruction from `from` on, in the block that stops at `end`, whose result is v; 0 if there is none.
 fn find_in_block(s: &[u8], from: usize, end: usize, v: u16) -> usize
     requires { ⌜ BlockFrom (now s) from end × ((end ≤ length (now s)) × (v < 65535)) ⌝ }
     ensures { λ r. ⌜ r ≡ firstPlace v (blockEntries (readRecords (now (s .entry)) from end)) ⌝ }
@@ -319,7 +318,7 @@ fn verify_instr(
     }
 }
 
-// The terminator of a kind at q (`verify_terminator`).
+// The terminator of a kind at q (a part of `verify_block`).
 fn verify_terminator(
     s: &[u8],
     at: usize,

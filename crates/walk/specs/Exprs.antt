@@ -1,10 +1,10 @@
 -- Expressions into the log. `entries` are the names that are held, newest first. Untrusted: see Log.
-use Prim.Native.Nat.{ℕ, suc, _*_}
+use Prim.Native.Nat.{ℕ, _*_}
 use mathlib.Core.List.{List, [], _∷_}
 use mathlib.Core.Option.{Option, none, some}
-use mathlib.Core.Bool.{Bool, true, false}
+use mathlib.Core.Bool.{true, false}
 use lib.Dec.{eqb}
-use Rattle.definitions.specs.Result.{Result, err, ok, _>>=_, _>>_, okOrElse}
+use Rattle.definitions.specs.Result.{err, ok, _>>=_, _>>_, okOrElse}
 use Rattle.definitions.specs.Ast.{Expr, Exprs, enil, econs, Contract}
 use Rattle.definitions.specs.Ir.{IrType, Instruction, binaryType, unlessVoid}
 use Rattle.definitions.specs.Lower.{LoweringError, Lowering, Scope, Value, Callee, contextFn, poseidonFn, merkleProofFn, userFn, callee, twoOf, count, resultValue, inScope, structOf, storageNamed, structNamed, fieldPosition}

@@ -1,17 +1,17 @@
 -- A function's walk, and its record from the log: each block's records behind the block's head, in the order of the ids. Untrusted: see Log.
-use Prim.Native.Nat.{ℕ, zero, suc, _+_, _-_, _%_}
+use Prim.Native.Nat.{ℕ, zero, suc, _-_, _%_}
 use mathlib.Core.List.{List, [], _∷_, _++_, map}
-use mathlib.Core.Option.{Option, none, some}
-use mathlib.Core.Bool.{Bool, true, false}
-use lib.ListN.{length, getD, take, drop, set}
+use mathlib.Core.Option.{none}
+use mathlib.Core.Bool.{false}
+use lib.ListN.{getD, take, drop, set}
 use Rattle.definitions.specs.Fields.{bytes}
-use Rattle.definitions.specs.Result.{Result, err, ok, _>>=_, _>>_}
+use Rattle.definitions.specs.Result.{ok, _>>=_, _>>_}
 use Rattle.definitions.specs.Ast.{Param, Function, Contract}
-use Rattle.definitions.specs.Ir.{IrType, Instruction, Terminator}
+use Rattle.definitions.specs.Ir.{IrType, Terminator}
 use Rattle.definitions.specs.Records.{small, ty, item, group, writeValues, writeRecord}
 use Rattle.definitions.specs.ProgramSheet.{paramItem}
-use Rattle.definitions.specs.Lower.{LoweringError, Lowering, Scope, Value, parseIrType, ownReturnType}
-use Rattle.walk.specs.Log.{Log, counted}
+use Rattle.definitions.specs.Lower.{Lowering, Scope, Value, parseIrType, ownReturnType}
+use Rattle.walk.specs.Log.{counted}
 use Rattle.walk.specs.Stmts.{Ctx, withLog, initLocal, terminateIfOpen, walkStmts}
 
 -- `FnCtx::new`; the arrays may hold anything before

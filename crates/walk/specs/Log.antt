@@ -1,7 +1,7 @@
 -- The log that lowering appends records to, in the order of the walk. It has a fixed room: once a record does not fit, all is lost,
 -- and the walk goes on for its refusals. Untrusted: helper definitions, shown equal to the definitions' lowering in proofs/.
 use Prim.Native.Nat.{ℕ, suc, _+_, _%_}
-use mathlib.Core.List.{List, [], _∷_, _++_}
+use mathlib.Core.List.{List, [], _++_}
 use mathlib.Core.Option.{Option, none, some}
 use lib.Dec.{leb}
 use lib.ListN.{length, take}

@@ -1,17 +1,17 @@
 -- Statements into the log. A block is switched to once and left when it is terminated, so that its records stand in one stretch of
 -- the log, from `starts` to `stops`. Untrusted: see Log.
-use Prim.Native.Nat.{ℕ, suc, _+_}
+use Prim.Native.Nat.{ℕ, _+_}
 use mathlib.Core.List.{List, [], _∷_, _++_}
-use mathlib.Core.Option.{Option, none, some}
+use mathlib.Core.Option.{none, some}
 use mathlib.Core.Bool.{Bool, true, false}
 use lib.Dec.{leb, ltb}
 use lib.ListN.{length, set}
-use Rattle.definitions.specs.Result.{Result, err, ok, _>>=_, _>>_, okOrElse}
-use Rattle.definitions.specs.Ast.{BinOp, Expr, Exprs, OptExpr, absent, present, Stmt, Stmts, snil, scons, OptStmts, noElse, elseDo, Param, Contract}
+use Rattle.definitions.specs.Result.{err, ok, _>>=_, _>>_, okOrElse}
+use Rattle.definitions.specs.Ast.{BinOp, Expr, OptExpr, absent, present, Stmt, Stmts, snil, scons, OptStmts, noElse, elseDo, Contract}
 use Rattle.definitions.specs.Ir.{IrType, Instruction, Terminator}
 use Rattle.definitions.specs.Records.{pick}
-use Rattle.definitions.specs.Lower.{LoweringError, Lowering, Scope, Value, inScope, storageNamed, parseIrType}
-use Rattle.walk.specs.Log.{Log, append, push, close, counted}
+use Rattle.definitions.specs.Lower.{LoweringError, Lowering, Scope, inScope, storageNamed}
+use Rattle.walk.specs.Log.{Log, push, close}
 use Rattle.walk.specs.Exprs.{walkExpr, walkExprValue, walkArgs}
 
 pub record Ctx : Type 0 where

@@ -4,7 +4,7 @@
 use crate::sheets::*;
 use malovuneth::{lower, lower_to_vec, verify, Refusal, Type, MOST_BYTES};
 
-/// P1 of document 01: a contract without functions.
+/// P1 of crates/definitions/specs/Rows.antt: a contract without functions.
 const P1: [u8; 8] = [8, 0, 0, 0, 1, 0, 10, 0];
 const P1_PROGRAM: [u8; 6] = [6, 0, 0, 0, 50, 0];
 

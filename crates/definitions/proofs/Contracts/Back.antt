@@ -12,8 +12,9 @@ use Rattle.definitions.specs.Records.{pick, small, Value, item, Tree, no
 use Rattle.definitions.specs.ContractSheet.{Blocks, andBlock, opOf, opNumber, exprOf, exprsOf, fieldInitsOf, stmtOf, stmtsOf, addBlock, storageOf, structOf, functionOf, contractOf, exprTree, exprTrees, fieldInitTrees, stmtTree, stmtTrees, storageTree, structTree, functionTree, contractTree}
 use Rattle.definitions.proofs.Sheets.Fits.{fitSmall, fitRaw, fitOne}
 use Rattle.definitions.proofs.Sheets.Passed.{picked}
-use Rattle.definitions.proofs.Sheets.Reads.{Holds, hnil, hcons}
+use Rattle.definitions.proofs.Sheets.Reads.{hnil, hcons}
 use Rattle.definitions.proofs.Sheets.Lines.{OfRows, Given, by-lines, Follows, over, next, skip, take, end, more}
+use Rattle.definitions.proofs.Sheets.Again.{Step}
 
 -- THE AIM: the tree of what is read from a record of a class is that record
 unfoldable pub again : Class → Tree → Tree
@@ -38,7 +39,7 @@ Back c t = again c t ≡ t
 
 -- a row's step: it is so of a record of kind k with these fields if it is so of its children
 abbrev pub Remade : Class → ℕ → List Field → Pattern → Type 0
-Remade c k fs p = (at : ℕ) (v : List Value) (ts : Trees) → Holds fs v → Follows Back p ts → Back c (node at k v ts)
+Remade = Step Back
 
 -- what many rows share
 module _ (c : Class) where

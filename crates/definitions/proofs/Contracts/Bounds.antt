@@ -1,7 +1,5 @@
 -- The numbers of a contract that passed refusals 3 and 4. Assumes nothing: these are definitions for proofs, that no promise cites.
-use Prim.Native.Nat.{ℕ, _<_, _≤_, _^_}
-use mathlib.Core.List.{List, [], _∷_}
-use mathlib.Core.Option.{Option, none, some}
+use Prim.Native.Nat.{_<_, _≤_, _^_}
 use lib.ListN.{length}
 use Rattle.definitions.specs.Ast.{Param, Contract, Expr, Exprs, Function, OptExpr, OptStmts, Stmt, Stmts, Struct, absent, econs, elseDo, enil, noElse, present, scons, snil}
 use Rattle.definitions.specs.All.{All}

@@ -1,15 +1,15 @@
 -- What a sheet within the limits (4) has. Assumes nothing.
 use mathlib.Core.Path.{_≡_, refl, sym, subst}
-use mathlib.Core.Bool.{Bool, true, false}
-use mathlib.Core.List.{List, _∷_}
+use mathlib.Core.Bool.{Bool, true, false, _&&_}
+use mathlib.Core.List.{List, [], _∷_}
 use Prim.Native.Nat.{ℕ, suc, _+_, _<_, _≤_}
 use native.Mathlib.Omega.{arith}
 use lib.Dec.{leb, eqb}
 use lib.ListN.{length, length-map}
-use borrow.Author.Tests.{leb-false, leb-true, eqb-true, eqb-false, le-leb}
+use borrow.Author.Tests.{leb-false, leb-true, eqb-true, eqb-false, eq-eqb, le-leb}
 use Rattle.definitions.specs.Ast.{Struct, Function}
-use Rattle.definitions.specs.Records.{pick, Value, Good, Bad, Tree, node, Trees, tnil, tcons, gather, itemsAt, kindIn}
-use Rattle.definitions.specs.ContractSheet.{structOf, functionOf, countTrees, either, over, oneIf, limitTree, limitTrees}
+use Rattle.definitions.specs.Records.{pick, Value, Good, Tree, node, Trees, tnil, tcons, gather, itemsAt, kindIn}
+use Rattle.definitions.specs.ContractSheet.{structOf, functionOf, countTrees, Counts, noneBefore, oneIf, andThis, Measured, overLimits, anyOf, over, limitTree, limitTrees}
 use Rattle.definitions.specs.All.{All, anil, acons}
 use Rattle.definitions.proofs.Results.{by-test}
 use Rattle.definitions.proofs.Sheets.Passed.{bad-good, both-good}
@@ -23,46 +23,62 @@ pub data TopKind : ℕ → Type 0 where
 abbrev pub mostOf : ℕ → ℕ
 mostOf k = pick (eqb k 2) 256 64
 
-abbrev pub countOf : ℕ → ℕ → ℕ → ℕ → ℕ
-countOf k a b c = pick (eqb k 2) a (pick (eqb k 3) b c)
+abbrev pub countOf : ℕ → Counts → ℕ
+countOf k n = pick (eqb k 2) (n .storage) (pick (eqb k 3) (n .structs) (n .functions))
 
-pub count-next : {k : ℕ} (t : Tree) (a b c : ℕ) → TopKind k → countOf k (a + oneIf 2 t) (b + oneIf 3 t) (c + oneIf 4 t) ≡ countOf k a b c + oneIf k t
-count-next t a b c storage = refl
-count-next t a b c struct = refl
-count-next t a b c function = refl
+pub count-next : {k : ℕ} (t : Tree) (n : Counts) → TopKind k → countOf k (andThis t n) ≡ countOf k n + oneIf k t
+count-next t n storage = refl
+count-next t n struct = refl
+count-next t n function = refl
 
--- A RECORD that is not over
-pub either-no : (x y : Bool) → either x y ≡ false → (x ≡ false) × (y ≡ false)
-either-no true y e = absurd (let z : _≡_ {A = ℕ} 0 1 = cc in omega arith)
-either-no false y e = (refl, e)
+-- A RECORD that is not over: it is within each of the limits
+pub record Within (r : Measured) : Type 0 where
+  functions : r .kind ≡ 4 → r .before .functions < 64
+  structs : r .kind ≡ 3 → r .before .structs < 64
+  storage : r .kind ≡ 2 → r .before .storage < 256
+  pub struct-fields : r .kind ≡ 3 → length (itemsAt 1 (r .fields)) < 65
+  pub parameters : r .kind ≡ 4 → length (itemsAt 3 (r .fields)) < 17
+  pub call-arguments : r .kind ≡ 37 → r .children < 17
+  pub emit-arguments : r .kind ≡ 19 → r .children < 17
+  pub shallow : r .depth < 41
 
-module _ (v : List Value) (m d a b c : ℕ) where
-  pub shallow : (k : ℕ) → over k v m d a b c ≡ false → d < 41
-  unfolding over
-  shallow k e = leb-false 41 d (either-no (leb 41 d) _ e .0)
+none-of : (bs : List Bool) → anyOf bs ≡ false → All (λ (b : Bool). b ≡ false) bs
+none-of [] e = anil
+none-of (true ∷ bs) e = absurd (let z : _≡_ {A = ℕ} 0 1 = cc in omega arith)
+none-of (false ∷ bs) e = acons refl (none-of bs e)
 
-  pub room-for : {k : ℕ} → TopKind k → over k v m d a b c ≡ false → countOf k a b c < mostOf k
-  unfolding over
-  room-for storage e = leb-false 256 a (either-no (leb 41 d) _ e .1)
-  room-for struct e = leb-false 64 b (either-no (leb 64 b) _ (either-no (leb 41 d) _ e .1) .0)
-  room-for function e = leb-false 64 c (either-no (leb 64 c) _ (either-no (leb 41 d) _ e .1) .0)
+pub not-over : (r : Measured) → over r ≡ false → Within r
+unfolding over
+not-over r e = go (none-of (overLimits r) e)
+  where
+    below : {j m n : ℕ} → eqb (r .kind) j && leb m n ≡ false → r .kind ≡ j → n < m
+    below {j} {m} {n} e q = leb-false m n (rw (eq-eqb (r .kind) j q) at e)
 
-  pub fields-few : over 3 v m d a b c ≡ false → length (itemsAt 1 v) ≤ 64
-  unfolding over
-  fields-few e = let l : length (itemsAt 1 v) < 65 = leb-false 65 _ (either-no (leb 64 b) _ (either-no (leb 41 d) _ e .1) .1) in omega arith
+    go : All (λ (b : Bool). b ≡ false) (overLimits r) → Within r
+    go (acons a (acons b (acons c (acons d (acons f (acons g (acons h (acons i anil)))))))) = record {
+      functions = below a;
+      structs = below b;
+      storage = below c;
+      struct-fields = below d;
+      parameters = below f;
+      call-arguments = below g;
+      emit-arguments = below h;
+      shallow = leb-false 41 (r .depth) i;
+    }
 
-  pub params-few : over 4 v m d a b c ≡ false → length (itemsAt 3 v) ≤ 16
-  unfolding over
-  params-few e = let l : length (itemsAt 3 v) < 17 = leb-false 17 _ (either-no (leb 64 c) _ (either-no (leb 41 d) _ e .1) .1) in omega arith
+pub room-for : {k : ℕ} {r : Measured} → TopKind k → Within r → r .kind ≡ k → countOf k (r .before) < mostOf k
+room-for storage w e = w .storage e
+room-for struct w e = w .structs e
+room-for function w e = w .functions e
+
+-- a record with its children, as the limits look at it
+abbrev pub measured : ℕ → List Value → Trees → ℕ → Counts → Measured
+measured k v ts d n = record { kind = k; fields = v; children = countTrees ts; depth = d; before = n }
 
 -- one record that passed: it is not over, and its children passed
-pub tree-within : (at k : ℕ) (v : List Value) (ts : Trees) (d a b c : ℕ) → limitTree (node at k v ts) d a b c ≡ Good → (over k v (countTrees ts) d a b c ≡ false) × (limitTrees ts (suc d) 0 0 0 ≡ Good)
+pub tree-within : (at k : ℕ) (v : List Value) (ts : Trees) (d : ℕ) (n : Counts) → limitTree (node at k v ts) d n ≡ Good → Within (measured k v ts d n) × (limitTrees ts (suc d) noneBefore ≡ Good)
 unfolding limitTree
-tree-within at k v ts d a b c = go (over k v (countTrees ts) d a b c)
-  where
-    go : (t : Bool) → pick t (Bad at) (limitTrees ts (suc d) 0 0 0) ≡ Good → (t ≡ false) × (limitTrees ts (suc d) 0 0 0 ≡ Good)
-    go true e = absurd (bad-good e)
-    go false e = (refl, e)
+tree-within at k v ts d n e = by-test (over (measured k v ts d n)) (λ q. absurd (bad-good (rw q at e))) (λ q. (not-over (measured k v ts d n) q, rw q at e))
 
 -- what f makes of the records of one kind
 module _ {A : Type 0} (j : ℕ) (f : Tree → A) (t : Tree) (ts : Trees) where
@@ -94,32 +110,29 @@ module _ {A : Type 0} (j : ℕ) (f : Tree → A) (t : Tree) (ts : Trees) where
       (λ q. let k : kindIn t ≡ j = eqb-true (kindIn t) j q in rw (gather-here k) (acons (p k) below))
       (λ q. rw (gather-past (eqb-false (kindIn t) j q)) below)
 
--- RECORDS within the limits, after a storage fields, b structs and c functions: there are not too many of a kind
-pub within : {A : Type 0} {k : ℕ} (f : Tree → A) (ts : Trees) (d a b c : ℕ) → TopKind k → limitTrees ts d a b c ≡ Good → countOf k a b c ≤ mostOf k → countOf k a b c + length (gather k k f ts) ≤ mostOf k
+-- RECORDS within the limits, after so many of each kind: there are not too many of a kind
+pub within : {A : Type 0} {k : ℕ} (f : Tree → A) (ts : Trees) (d : ℕ) (n : Counts) → TopKind k → limitTrees ts d n ≡ Good → countOf k n ≤ mostOf k → countOf k n + length (gather k k f ts) ≤ mostOf k
 unfolding limitTree
-within f tnil d a b c T e h = omega arith
-within {A} {k} f (tcons (node at i v ks) ts) d a b c T e h =
+within f tnil d n T e h = omega arith
+within {A} {k} f (tcons (node at i v ks) ts) d n T e h =
     let t : Tree = node at i v ks in
     let g = both-good _ _ e in
-    let o = tree-within at i v ks d a b c (g .0) .0 in
-    counted-past k f t ts (countOf k a b c) _ (mostOf k) (λ q. room-for v (countTrees ks) d a b c T (subst (λ (x : ℕ). over x v (countTrees ks) d a b c ≡ false) q o))
-    (count-next t a b c T) (λ l. within f ts d _ _ _ T (g .1) l) h
+    counted-past k f t ts (countOf k n) _ (mostOf k) (room-for T (tree-within at i v ks d n (g .0) .0)) (count-next t n T) (λ l. within f ts d _ T (g .1) l) h
 
 -- and each of them is not over
-each-within : {A : Type 0} (P : A → Type 0) (j : ℕ) (f : Tree → A) → ((at : ℕ) (v : List Value) (ks : Trees) (m d a b c : ℕ) → over j v m d a b c ≡ false → P (f (node at j v ks)))
-    → (ts : Trees) (d a b c : ℕ) → limitTrees ts d a b c ≡ Good → All P (gather j j f ts)
+each-within : {A : Type 0} (P : A → Type 0) (j : ℕ) (f : Tree → A) → ((at : ℕ) (v : List Value) (ks : Trees) (r : Measured) → Within r → r .kind ≡ j → r .fields ≡ v → P (f (node at j v ks)))
+    → (ts : Trees) (d : ℕ) (n : Counts) → limitTrees ts d n ≡ Good → All P (gather j j f ts)
 unfolding limitTree
-each-within P j f p tnil d a b c e = anil
-each-within P j f p (tcons (node at i v ks) ts) d a b c e =
+each-within P j f p tnil d n e = anil
+each-within P j f p (tcons (node at i v ks) ts) d n e =
     let g = both-good _ _ e in
-    let o = tree-within at i v ks d a b c (g .0) .0 in
     each-past j f (node at i v ks) ts P
-    (λ q. subst (λ (x : ℕ). P (f (node at x v ks))) (sym q) (p at v ks (countTrees ks) d a b c (subst (λ (x : ℕ). over x v (countTrees ks) d a b c ≡ false) q o)))
-    (each-within P j f p ts d _ _ _ (g .1))
+    (λ q. subst (λ (x : ℕ). P (f (node at x v ks))) (sym q) (p at v ks (measured i v ks d n) (tree-within at i v ks d n (g .0) .0) q refl))
+    (each-within P j f p ts d _ (g .1))
 
-pub structs-within : (ts : Trees) (d a b c : ℕ) → limitTrees ts d a b c ≡ Good → All (λ (s : Struct). length (s .fields) ≤ 64) (gather 3 3 structOf ts)
-structs-within = each-within (λ (s : Struct). length (s .fields) ≤ 64) 3 structOf (λ at v ks m d a b c e. rw length-map (fields-few v m d a b c e))
+pub structs-within : (ts : Trees) (d : ℕ) (n : Counts) → limitTrees ts d n ≡ Good → All (λ (s : Struct). length (s .fields) ≤ 64) (gather 3 3 structOf ts)
+structs-within = each-within (λ (s : Struct). length (s .fields) ≤ 64) 3 structOf (λ at v ks r w k e. rw (length-map, ← e) (omega (arith, w .struct-fields k)))
 
-pub functions-within : (ts : Trees) (d a b c : ℕ) → limitTrees ts d a b c ≡ Good → All (λ (f : Function). length (f .params) ≤ 16) (gather 4 4 functionOf ts)
+pub functions-within : (ts : Trees) (d : ℕ) (n : Counts) → limitTrees ts d n ≡ Good → All (λ (f : Function). length (f .params) ≤ 16) (gather 4 4 functionOf ts)
 unfolding functionOf
-functions-within = each-within (λ (f : Function). length (f .params) ≤ 16) 4 functionOf (λ at v ks m d a b c e. rw length-map (params-few v m d a b c e))
+functions-within = each-within (λ (f : Function). length (f .params) ≤ 16) 4 functionOf (λ at v ks r w k e. rw (length-map, ← e) (omega (arith, w .parameters k)))

@@ -11,7 +11,7 @@ use Rattle.definitions.specs.Fields.{Bytes}
 use Rattle.definitions.specs.Ast.{Exprs, enil, econs, Param, Function}
 use Rattle.definitions.specs.Grammar.{Class, upTo, optional, number, nameAndType, Field, single, counted, Pattern, rows}
 use Rattle.definitions.specs.Records.{Item, Value, row, rowIn, rowFields, Good, Tree, node, Trees, tnil, tcons, readRecords, numAt, kindIn, gather}
-use Rattle.definitions.specs.ContractSheet.{storageOf, firstE, restE, optE, exprFrom, exprOf, exprsOf, Blocks, noBlock, andBlock, firstB, restB, optB, stmtFrom, stmtOf, stmtsOf, blocksOf, addBlock, paramOf, functionOf, contractOf, limitTrees, refusal4}
+use Rattle.definitions.specs.ContractSheet.{storageOf, firstE, restE, optE, exprFrom, exprOf, exprsOf, Blocks, noBlock, andBlock, firstB, restB, optB, stmtFrom, stmtOf, stmtsOf, blocksOf, addBlock, paramOf, functionOf, contractOf, noneBefore, limitTrees, refusal4}
 use Rattle.definitions.proofs.Sheets.Fits.{fitSmall, fitNone, fitSome, fitRaw, fitPair, FitItems, noItem, andItem, fitOne, fitGroup}
 use Rattle.definitions.proofs.Sheets.Passed.{picked, Fine, both-good}
 use Rattle.definitions.proofs.Sheets.Reads.{Holds, hnil, hcons, Read, rnode, Reads, rnil, rcons, reads}
@@ -146,20 +146,20 @@ join-fns anil q = anil
 join-fns (acons p ps) (acons q qs) = acons (record { name = p .name; ret = p .ret; params = p .params; count = q; body = p .body }) (join-fns ps qs)
 
 -- a Class.contract read from a sheet that passed 3 and 4
-node-small : {p : Pattern} (at k : ℕ) (v : List Value) (ts more : Trees) → Reads p ts → limitTrees ts 2 0 0 0 ≡ Good → Small (contractOf (tcons (node at k v ts) more))
+node-small : {p : Pattern} (at k : ℕ) (v : List Value) (ts more : Trees) → Reads p ts → limitTrees ts 2 noneBefore ≡ Good → Small (contractOf (tcons (node at k v ts) more))
 unfolding contractOf
 node-small at k v ts more r e = record {
-  storage = omega (arith, within storageOf ts 2 0 0 0 storage e (lit≤ tt));
-  structs = structs-within ts 2 0 0 0 e;
-  functions = join-fns (all-gather FnSmall 4 4 functionOf fn-small r) (functions-within ts 2 0 0 0 e);
-  count = omega (arith, within functionOf ts 2 0 0 0 function e (lit≤ tt));
+  storage = omega (arith, within storageOf ts 2 noneBefore storage e (lit≤ tt));
+  structs = structs-within ts 2 noneBefore e;
+  functions = join-fns (all-gather FnSmall 4 4 functionOf fn-small r) (functions-within ts 2 noneBefore e);
+  count = omega (arith, within functionOf ts 2 noneBefore function e (lit≤ tt));
 }
 
-trees-small : {p : Pattern} (ts : Trees) → Reads p ts → limitTrees ts 1 0 0 0 ≡ Good → Small (contractOf ts)
+trees-small : {p : Pattern} (ts : Trees) → Reads p ts → limitTrees ts 1 noneBefore ≡ Good → Small (contractOf ts)
 unfolding contractOf limitTrees
 trees-small tnil r e = record { storage = omega arith; structs = anil; functions = anil; count = omega arith }
 trees-small (tcons (node at k v ts) more) (rcons _ (rnode _ _ rs) _) e =
-    node-small at k v ts more rs (tree-within at k v ts 1 0 0 0 (both-good _ _ e .0) .1)
+    node-small at k v ts more rs (tree-within at k v ts 1 noneBefore (both-good _ _ e .0) .1)
 
 pub sheet-small : (s : List ℕ) (q : Pattern) → Bytes s → Fine s 0 (length s) q → refusal4 s ≡ Good → Small (contractOf (readRecords s 0 (length s)))
 unfolding refusal4

@@ -7,14 +7,13 @@ use lib.Dec.{eqb}
 use lib.ListN.{length}
 use borrow.Author.Tests.{eqb-true, eqb-false}
 use Rattle.definitions.specs.Grammar.{Class, upTo, optional, nameAndType, single, counted, listed, Pattern, done, one, many, rows}
-use Rattle.definitions.specs.Records.{pick, Item, opt, pair, Tree, Trees, tnil, tcons, writeTree, writeTrees, readRecords, checkRecords, optOf, kindIn, gather, treesOf}
+use Rattle.definitions.specs.Records.{pick, Item, opt, Tree, Trees, tnil, tcons, writeTree, writeTrees, readRecords, optOf, kindIn, gather, treesOf}
 use Rattle.definitions.specs.ContractSheet.{exprOf, paramOf, paramPair, storageOf, storageTree, structOf, structTree, functionOf, functionTree, contractOf, contractTree, readContract, writeContract, refusal3, NothingOverlooked}
-use Rattle.definitions.proofs.Fields.{whole-back}
-use Rattle.definitions.proofs.Sheets.Fits.{FitItem, fitSmall, fitNone, fitSome, fitPair, FitItems, noItem, andItem, fitOne, fitGroup}
-use Rattle.definitions.proofs.Sheets.Passed.{picked, Fine, fine}
-use Rattle.definitions.proofs.Sheets.Reads.{hnil, hcons, hrest, Read, rnode, Reads, rnil, rcons, reads}
-use Rattle.definitions.proofs.Sheets.Lines.{OfRows, Given, by-lines, Follows, over, next, end, more, may-end, goes-on}
-use Rattle.definitions.proofs.Sheets.Written.{Lies, trees-lie}
+use Rattle.definitions.proofs.Sheets.Fits.{FitItem, fitSmall, fitNone, fitSome, FitItems, fitOne, fitGroup}
+use Rattle.definitions.proofs.Sheets.Passed.{picked}
+use Rattle.definitions.proofs.Sheets.Reads.{hnil, hcons, hrest}
+use Rattle.definitions.proofs.Sheets.Lines.{OfRows, Given, by-lines, Follows, over, next, end, more}
+use Rattle.definitions.proofs.Sheets.Again.{items-back, follow, written}
 use Rattle.definitions.proofs.Contracts.Back.{again, Back, Remade, named, expr-rows, stmts-back, stmt-rows}
 
 -- BLOCKS AND FIELDS OF A LITERAL
@@ -32,8 +31,7 @@ unfolding again
 storage-row at _ _ (hcons (fitOne (fitSmall l m)) (hcons (fitOne (fitSmall i j)) hnil)) over = refl
 
 pairs-back : {is : List Item} → FitItems nameAndType is → map paramPair (map paramOf is) ≡ is
-pairs-back noItem = refl
-pairs-back (andItem (fitPair {a} {b} _ _) h) = ap (λ (l : List Item). pair a b ∷ l) (pairs-back h)
+pairs-back h = items-back nameAndType paramPair paramOf (λ a b. refl) h
 
 struct-row : Remade Class.struct 3 (single (upTo 65534) ∷ listed nameAndType ∷ []) done
 unfolding again
@@ -82,7 +80,7 @@ contract-row : Remade Class.contract 1 (single (upTo 65534) ∷ []) (many Class.
 unfolding again contractTree contractOf
 contract-row = named Class.contract (λ at n ts l f. rw (fields-back f))
 
--- EVERY RECORD: each row's step, and the walk over a sheet's records
+-- EVERY RECORD
 remade : (c : Class) → OfRows Remade c rows
 unfolding again Given rows
 remade Class.contract = by-lines Remade Class.contract rows contract-row
@@ -100,24 +98,15 @@ remade Class.basicBlock = λ k fs p r at v ts h f. refl
 remade Class.instruction = λ k fs p r at v ts h f. refl
 remade Class.terminator = λ k fs p r at v ts h f. refl
 
-mutual
-  back : {c : Class} {t : Tree} → Read c t → Back c t
-  back (rnode {c = c} {at = at} {k = k} {fs = fs} {p = p} {vs = vs} {ts = ts} r h rs) = remade c k fs p r at vs ts h (backs rs)
-
-  backs : {p : Pattern} {ts : Trees} → Reads p ts → Follows Back p ts
-  backs (rnil {p} m) = may-end Back p m
-  backs (rcons {p = p} a r rs) = goes-on Back p a (back r) (backs rs)
-
 -- THE SHEET
 sheet-back : {ts : Trees} → Follows Back (one Class.contract done) ts → tcons (contractTree (contractOf ts)) tnil ≡ ts
 unfolding again
 sheet-back (next e over) = ap (λ (t : Tree). tcons t tnil) e
 
 pub nothing-overlooked : NothingOverlooked
-unfolding refusal3 checkRecords readContract writeContract writeTree
+unfolding refusal3 readContract writeContract writeTree
 nothing-overlooked s h e =
-    let f : Fine s 0 (length s) (one Class.contract done) = fine _ s 0 (length s) (one Class.contract done) e in
+    let q : Pattern = one Class.contract done in
     let ts : Trees = readRecords s 0 (length s) in
-    let w : Lies s 0 (length s) (writeTrees ts) = trees-lie h f in
-    let c : tcons (contractTree (contractOf ts)) tnil ≡ ts = sheet-back (backs (reads h f)) in
-    sym (append-nil _) ∙ ap writeTrees c ∙ whole-back (w .stands) (omega (arith, w .long))
+    let c : tcons (contractTree (contractOf ts)) tnil ≡ ts = sheet-back (follow Back remade s q h e) in
+    sym (append-nil _) ∙ ap writeTrees c ∙ written s q h e

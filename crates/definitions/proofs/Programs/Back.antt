@@ -1,17 +1,17 @@
 -- A program's tree gives the program back, at whatever place it is read. Assumes nothing.
-use mathlib.Core.Path.{_≡_, refl, ap, ap₂, sym, _∙_}
-use mathlib.Core.Bool.{Bool, true, false}
+use mathlib.Core.Path.{_≡_, refl, ap, ap₂, _∙_}
+use mathlib.Core.Bool.{true, false}
 use mathlib.Core.List.{List, [], _∷_, _++_, map, append-nil}
 use mathlib.Core.Option.{Option, none, some}
-use Prim.Native.Nat.{ℕ, zero, suc, _+_, _<_}
-use lib.Dec.{leb, eqb, ltb, T, lit<}
+use Prim.Native.Nat.{ℕ, _+_, _<_}
+use lib.Dec.{leb, ltb, T, lit<}
 use lib.ListN.{length}
 use Rattle.definitions.specs.Ast.{BinOp}
-use Rattle.definitions.specs.Grammar.{Class, number, Entry, Field, done, irType, listed, optional, rows, single, upTo}
-use Rattle.definitions.specs.InstrTable.{binaryKind, kindOf}
-use Rattle.definitions.specs.Ir.{BasicBlock, InstrNode, Instruction, IrFunction, IrProgram, IrType, Terminator}
-use Rattle.definitions.specs.ProgramSheet.{paramsAt, typesAt, blockOf, blockTree, firstOf, functionNameOf, functionNameTree, functionOf, functionTree, instrNodeOf, instrOf, instrTree, optTermTree, paramItem, programOf, programTree, termOf, termTree, valuesOf}
-use Rattle.definitions.specs.Records.{pick, writeValues, numAt, typeAt, Item, Tree, Trees, Value, gather, item, kindIn, node, opt, param, row, rowIn, small, tcons, tnil, treesOf, ty}
+use Rattle.definitions.specs.Grammar.{Class, number, Field, done, irType, listed, optional, rows, single, upTo}
+use Rattle.definitions.specs.InstrTable.{kindOf}
+use Rattle.definitions.specs.Ir.{BasicBlock, InstrNode, Instruction, IrFunction, IrProgram, Terminator}
+use Rattle.definitions.specs.ProgramSheet.{paramsAt, typesAt, blockOf, blockTree, firstOf, functionNameOf, functionNameTree, functionOf, functionTree, instrNodeOf, instrOf, instrTree, optTermTree, paramItem, programOf, programTree, termOf, valuesOf}
+use Rattle.definitions.specs.Records.{pick, writeValues, numAt, typeAt, Tree, Trees, gather, item, kindIn, node, opt, row, rowIn, small, tcons, tnil, treesOf, ty}
 use Rattle.definitions.proofs.Sheets.Trees.{placedTree, placedTrees}
 
 map-back : {A B : Type 0} (f : A → B) (g : B → A) → ((a : A) → g (f a) ≡ a) → (l : List A) → map g (map f l) ≡ l

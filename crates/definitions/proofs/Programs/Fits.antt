@@ -1,6 +1,5 @@
 -- Programs whose numbers fit their fields. Assumes nothing: these are definitions for proofs, that no promise cites.
 use Prim.Native.Nat.{ℕ, _^_, _<_, _≤_}
-use mathlib.Core.List.{List, [], _∷_}
 use mathlib.Core.Option.{Option, none, some}
 use lib.ListN.{length}
 use Rattle.definitions.specs.All.{All}

@@ -1,17 +1,16 @@
 -- Programs whose numbers fit: their sheet has the form, and reads back. Assumes nothing.
-use mathlib.Core.Path.{_≡_, refl, ap, ap₂, sym, _∙_}
-use mathlib.Core.Bool.{Bool, true, false}
-use mathlib.Core.List.{List, [], _∷_, _++_, map, append-nil}
+use mathlib.Core.Path.{_≡_, refl, ap, _∙_}
+use mathlib.Core.List.{List, [], _∷_, map, append-nil}
 use mathlib.Core.Option.{Option, none, some}
-use Prim.Native.Nat.{ℕ, zero, suc, _+_, _-_, _<_, _≤_, _^_}
+use Prim.Native.Nat.{ℕ, zero, suc, _<_, _≤_, _^_}
 use native.Mathlib.Nat.{sub-zero}
 use native.Mathlib.Omega.{arith}
 use lib.Dec.{lit<}
 use lib.ListN.{length, length-map}
-use Rattle.definitions.specs.Grammar.{number, Class, Entry, Field, Pattern, counted, done, irType, listed, many, one, optional, perhaps, rows, single, upTo, valueAndType}
+use Rattle.definitions.specs.Grammar.{number, Class, Entry, Pattern, done, irType, listed, many, one, optional, perhaps, rows, single, upTo, valueAndType}
 use Rattle.definitions.specs.Ir.{BasicBlock, InstrNode, Instruction, IrFunction, IrProgram, IrType, Terminator}
-use Rattle.definitions.specs.ProgramSheet.{blockTree, functionNameTree, functionTree, instrTree, optTermTree, paramItem, programOf, programTree, readProgram, refusal40, termTree, valuesOf, writeProgram}
-use Rattle.definitions.specs.Records.{Form, Good, Item, Tree, Trees, Value, after, checkRecords, group, item, left, mayEnd, opt, param, readRecords, rest, rowIn, sizeOf, small, tcons, tnil, treesFrom, treesOf, ty, word, writeTree}
+use Rattle.definitions.specs.ProgramSheet.{blockTree, functionNameTree, functionTree, instrTree, optTermTree, paramItem, programOf, programTree, readProgram, refusal40, valuesOf, writeProgram}
+use Rattle.definitions.specs.Records.{Good, Item, Tree, Trees, after, checkRecords, item, left, mayEnd, opt, readRecords, rest, rowIn, sizeOf, small, tcons, tnil, treesOf, ty, word, writeTree}
 use Rattle.definitions.proofs.Sheets.Fits.{FitItem, fitSmall, fitNone, fitSome, fitRaw, fitType, fitParam, FitItems, noItem, andItem, FitValue, fitOne, fitGroup, FitValues, noValue, andValue, lastRest, FitTree, fitNode, FitTrees, noTree, andTree}
 use Rattle.definitions.specs.All.{All, anil, acons}
 use Rattle.definitions.proofs.Programs.Fits.{Id, FitsType, FitsOpt, FitsInstr, FitsTerm, FitsNode, FitsBlock, FitsFunction, Fits}

@@ -1,13 +1,13 @@
 -- Which trees of records fit the rows. Assumes nothing: these are definitions for proofs, that no promise cites.
-use Prim.Native.Nat.{ℕ, zero, suc, _+_, _^_, _<_, _≤_}
+use Prim.Native.Nat.{ℕ, _^_, _<_, _≤_}
 use mathlib.Core.Path.{_≡_}
 use mathlib.Core.Bool.{true}
 use mathlib.Core.List.{List, [], _∷_}
-use mathlib.Core.Option.{Option, none, some}
+use mathlib.Core.Option.{none, some}
 use lib.ListN.{length}
 use Rattle.definitions.specs.Grammar.{Class, number, Entry, Field, Pattern, counted, irType, listed, nameAndType, optional, rows, single, upTo, valueAndType}
 use Rattle.definitions.specs.Ir.{IrType, nameOf}
-use Rattle.definitions.specs.Records.{Item, Tree, Trees, Value, after, group, item, left, mayEnd, node, opt, pair, param, rest, row, rowIn, sizeOf, small, tcons, tnil, ty, word, writeTree}
+use Rattle.definitions.specs.Records.{Item, Tree, Trees, Value, after, group, item, left, mayEnd, node, opt, pair, param, rest, row, rowIn, sizeOf, small, tcons, tnil, ty, word}
 
 pub data FitItem : Entry → Item → Type 0 where
   fitSmall : {m n : ℕ} → n ≤ m → n < 65536 → FitItem (upTo m) (small n)

@@ -1,19 +1,17 @@
 -- One entry and a run of entries: what was written is valid and is read back. Assumes nothing.
-use mathlib.Core.Path.{_≡_, refl, ap, ap₂, sym, _∙_}
-use mathlib.Core.Bool.{Bool, true, false}
-use mathlib.Core.List.{List, [], _∷_, _++_}
-use mathlib.Core.Option.{Option, none, some}
-use Prim.Native.Nat.{ℕ, zero, suc, _+_, _-_, _*_, _/_, _%_, _^_, _<_, _≤_}
+use mathlib.Core.Path.{_≡_, refl, ap, ap₂}
+use mathlib.Core.Bool.{true}
+use mathlib.Core.List.{List, _∷_}
+use Prim.Native.Nat.{ℕ, zero, suc, _+_, _*_, _^_, _<_}
 use native.Mathlib.Nat.{mul-suc, mul-zero}
 use native.Mathlib.Omega.{arith}
 use lib.Dec.{leb, eqb, lit<}
 use lib.ListN.{length, length-append}
-use borrow.Author.Tests.{le-leb, ne-eqb, eq-eqb}
-use Rattle.definitions.specs.Grammar.{number}
+use borrow.Author.Tests.{le-leb, ne-eqb}
 use Rattle.definitions.specs.Fields.{bytes, le}
-use Rattle.definitions.specs.Grammar.{Entry, irType, nameAndType, optional, upTo, valueAndType}
+use Rattle.definitions.specs.Grammar.{Entry}
 use Rattle.definitions.specs.Ir.{IrType, nameOf, tagOf}
-use Rattle.definitions.specs.Records.{Item, okItem, okItems, okType, opt, optFrom, pair, param, pick, readItem, readItems, sizeOf, small, ty, typeFrom, word, writeItem, writeItems, writeType}
+use Rattle.definitions.specs.Records.{Item, okItem, okItems, okType, optFrom, param, readItem, readItems, sizeOf, ty, typeFrom, writeItem, writeItems, writeType}
 use Rattle.definitions.proofs.Sheets.Fits.{FitItem, fitSmall, fitNone, fitSome, fitRaw, fitType, fitParam, fitPair, FitItems, noItem, andItem}
 use Rattle.definitions.proofs.Fields.{Stands, Both, split, le-bytes, length-bytes}
 

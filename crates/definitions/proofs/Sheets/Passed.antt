@@ -1,70 +1,83 @@
 -- A sheet that passed the check, as a proof tree: no bound on calls from here on; and one step of the reader. Assumes nothing.
-use mathlib.Core.Path.{_≡_, refl, ap, ap₂, sym, _∙_, subst}
-use mathlib.Core.Bool.{Bool, true, false}
+use mathlib.Core.Path.{_≡_, refl, ap₂, sym, _∙_}
+use mathlib.Core.Bool.{Bool, true, false, _&&_}
 use mathlib.Core.List.{List, [], _∷_}
-use Prim.Native.Nat.{ℕ, zero, suc, _+_, _-_, _*_, _/_, _%_, _<_, _≤_}
+use mathlib.Core.Option.{Option, none, some}
+use Prim.Native.Nat.{ℕ, zero, suc, _+_, _-_, _*_, _<_, _≤_}
 use native.Mathlib.Nat.{not-suc-le-zero}
 use native.Mathlib.Omega.{arith}
 use lib.Dec.{leb, eqb}
-use borrow.Author.Tests.{leb-true, eqb-true, eqb-false, eq-eqb, ne-eqb}
+use borrow.Author.Tests.{leb-true, eqb-true, eq-eqb, ne-eqb}
 use Rattle.definitions.specs.Fields.{le}
 use Rattle.definitions.specs.Grammar.{Class, Entry, Field, Pattern, counted, listed, rows, single}
-use Rattle.definitions.specs.Records.{Bad, Form, Good, Next, Row, Start, Tree, Trees, after, andThen, checkRecords, checkRest, left, mayEnd, noRow, node, nothing, okItem, okItems, past, pastAll, pick, readNode, readRecords, readValues, recordsFrom, refused, row, rowFields, rowIn, sizeOf, startAt, startIf, startRow, starts, tcons, tnil, treesFrom}
+use Rattle.definitions.specs.Records.{Bad, Form, Good, Next, Row, Start, Trees, after, andThen, checkRest, fieldEnd, fieldsEnd, left, mayEnd, noRow, node, nothing, okField, okItems, past, pastAll, pick, readNode, readRecords, readValues, recordsFrom, refused, row, rowFields, rowIn, sizeOf, startAt, startIf, startRow, starts, tcons, tnil, treesFrom}
+use Rattle.definitions.proofs.Results.{some-none, by-test}
 
 -- what holds of both arms holds of the pick
 pub picked : {A : Type 0} (P : A → Type 0) (b : Bool) (x y : A) → (b ≡ true → P x) → (b ≡ false → P y) → P (pick b x y)
 picked P true x y f g = f refl
 picked P false x y f g = g refl
 
--- a place after a field: 0, or no lower than the field's own, and within the record
-abbrev Past : ℕ → ℕ → ℕ → Type 0
-Past at stop x = (x ≤ stop) × ((x ≡ 0 → ⊥) → at ≤ x)
+pub both-true : (a b : Bool) → a && b ≡ true → (a ≡ true) × (b ≡ true)
+both-true true b e = (refl, e)
+both-true false b e = absurd (let z : _≡_ {A = ℕ} 0 1 = cc in omega arith)
 
-none-past : (at stop : ℕ) → Past at stop 0
-none-past at stop = (omega arith, λ z. absurd (z refl))
+-- a valid list with a count
+pub counted-ok : (e : Entry) (s : List ℕ) (stop at : ℕ) → okField (counted e) s stop at ≡ true
+    → (2 ≤ stop - at) × (sizeOf e * le 2 s at ≤ stop - (at + 2)) × (okItems e (le 2 s at) s (at + 2) ≡ true)
+unfolding okField
+counted-ok e s stop at o =
+    let a = both-true (leb 2 (stop - at) && leb (sizeOf e * le 2 s at) (stop - (at + 2))) _ o in
+    let b = both-true (leb 2 (stop - at)) _ (a .0) in
+    (leb-true _ _ (b .0), leb-true _ _ (b .1), a .1)
 
-pub field-past : (f : Field) (s : List ℕ) (stop at : ℕ) → at ≤ stop → Past at stop (past f s stop at)
+-- a valid field ends within its record
+pub field-within : (f : Field) (s : List ℕ) (stop at : ℕ) → okField f s stop at ≡ true → at ≤ stop → (at ≤ fieldEnd f s stop at) × (fieldEnd f s stop at ≤ stop)
+unfolding okField fieldEnd
+field-within (single e) s stop at o h =
+    let l : sizeOf e ≤ stop - at = leb-true _ _ (both-true (leb (sizeOf e) (stop - at)) _ o .0) in
+    (omega arith, omega arith)
+field-within (counted e) s stop at o h =
+    let c = counted-ok e s stop at o in
+    (omega arith, omega (arith, c .0, c .1))
+field-within (listed e) s stop at o h = (h, omega arith)
+
+-- a field that was passed is valid
+pub one-past : (f : Field) (s : List ℕ) (stop at b : ℕ) → past f s stop at ≡ some b → (okField f s stop at ≡ true) × (b ≡ fieldEnd f s stop at)
 unfolding past
-field-past (single e) s stop at h =
-    picked (Past at stop) (leb (sizeOf e) (stop - at)) _ _
-    (λ r. picked (Past at stop) (okItem e s at) _ _ (λ _. let r' : sizeOf e ≤ stop - at = leb-true _ _ r in (omega arith, λ _. omega arith)) (λ _. none-past at stop))
-    (λ _. none-past at stop)
-field-past (counted e) s stop at h =
-    picked (Past at stop) (leb 2 (stop - at)) _ _
-    (λ r. picked (Past at stop) (leb (sizeOf e * le 2 s at) (stop - (at + 2))) _ _
-    (λ o. picked (Past at stop) (okItems e (le 2 s at) s (at + 2)) _ _
-    (λ _. let r' : 2 ≤ stop - at = leb-true _ _ r in let o' : sizeOf e * le 2 s at ≤ stop - (at + 2) = leb-true _ _ o in (omega arith, λ _. omega arith))
-    (λ _. none-past at stop)) (λ _. none-past at stop))
-    (λ _. none-past at stop)
-field-past (listed e) s stop at h =
-    picked (Past at stop) (eqb ((stop - at) % sizeOf e) 0) _ _ (λ _. picked (Past at stop) (okItems e ((stop - at) / sizeOf e) s at) _ _ (λ _. (omega arith, λ _. h)) (λ _. none-past at stop)) (λ _. none-past at stop)
+one-past f s stop at b e =
+    by-test (okField f s stop at) (λ q. let z : some (fieldEnd f s stop at) ≡ some b = rw q at e in let y : fieldEnd f s stop at ≡ b = cc in (q, sym y)) (λ q. absurd (some-none b (sym (rw q at e))))
 
-pub past-zero : (fs : List Field) (s : List ℕ) (stop : ℕ) → pastAll fs s stop 0 ≡ 0
-unfolding pastAll
-past-zero [] s stop = refl
-past-zero (f ∷ fs) s stop = refl
+-- fields that are valid: the first, and those after it
+pub past-on : (f : Field) (fs : List Field) (s : List ℕ) (stop at : ℕ) → okField f s stop at ≡ true → pastAll (f ∷ fs) s stop at ≡ pastAll fs s stop (fieldEnd f s stop at)
+unfolding past pastAll
+past-on f fs s stop at o = rw (o, pastAll)
 
-fields-past : (fs : List Field) (s : List ℕ) (stop at : ℕ) → at ≤ stop → Past at stop (pastAll fs s stop at)
-unfolding pastAll
-fields-past [] s stop at h = (h, λ _. omega arith)
-fields-past (f ∷ fs) s stop at h =
-    let g : Past at stop (past f s stop at) = field-past f s stop at h in
-    let i : Past (past f s stop at) stop (pastAll fs s stop (past f s stop at)) = fields-past fs s stop (past f s stop at) (g .0) in
-    picked (Past at stop) (eqb at 0) _ _ (λ _. none-past at stop)
-    (λ _. (
-      i .0,
-      λ z.
-          let u : (past f s stop at ≡ 0 → ⊥) = (λ e. z (ap (pastAll fs s stop) e ∙ past-zero fs s stop)) in
-          let v : at ≤ past f s stop at = g .1 u in
-          let w : past f s stop at ≤ pastAll fs s stop (past f s stop at) = i .1 z in
-          omega arith,
-    ))
+pub first-past : (f : Field) (fs : List Field) (s : List ℕ) (stop at : ℕ) {b : ℕ} → pastAll (f ∷ fs) s stop at ≡ some b → (okField f s stop at ≡ true) × (pastAll fs s stop (fieldEnd f s stop at) ≡ some b)
+unfolding past pastAll
+first-past f fs s stop at {b} e = by-test (okField f s stop at) (λ q. (q, rw (q, pastAll) at e)) (λ q. absurd (some-none b (sym (rw (q, pastAll) at e))))
+
+-- where they end
+pub record Ends (fs : List Field) (s : List ℕ) (stop at b : ℕ) : Type 0 where
+  pub is : b ≡ fieldsEnd fs s stop at
+  pub low : at ≤ b
+  pub high : b ≤ stop
+
+pub all-past : (fs : List Field) (s : List ℕ) (stop at b : ℕ) → pastAll fs s stop at ≡ some b → at ≤ stop → Ends fs s stop at b
+unfolding pastAll fieldsEnd
+all-past [] s stop at b e h = let z : at ≡ b = cc in record { is = sym z; low = omega arith; high = omega arith }
+all-past (f ∷ fs) s stop at b e h =
+    let a = first-past f fs s stop at e in
+    let w = field-within f s stop at (a .0) h in
+    let i : Ends fs s stop (fieldEnd f s stop at) b = all-past fs s stop (fieldEnd f s stop at) b (a .1) (w .1) in
+    record { is = i .is; low = omega (arith, w .0, i .low); high = i .high }
 
 -- a record that starts at a place: its row, and where its children start and it stops
 pub record Head (s : List ℕ) (at end : ℕ) (c : Class) (fs : List Field) (p : Pattern) (b stop : ℕ) : Type 0 where
   pub is : rowIn (le 2 s (at + 4)) rows ≡ row c fs p
   pub stop-is : stop ≡ at + le 4 s at
-  pub body-is : b ≡ pastAll fs s stop (at + 6)
+  pub valid : pastAll fs s stop (at + 6) ≡ some b
+  pub body-is : b ≡ fieldsEnd fs s stop (at + 6)
   pub low : at + 6 ≤ b
   pub mid : b ≤ stop
   pub high : stop ≤ end
@@ -76,13 +89,14 @@ pub data Opened (s : List ℕ) (at end : ℕ) (q : Pattern) : Start → Type 0 w
 row-opened : (s : List ℕ) (at stop end : ℕ) (q : Pattern) (r : Row) → rowIn (le 2 s (at + 4)) rows ≡ r → stop ≡ at + le 4 s at → at + 6 ≤ stop → stop ≤ end → Opened s at end q (startRow s at stop q r)
 unfolding startRow startIf
 row-opened s at stop end q noRow e f h l = shut
-row-opened s at stop end q (row c fs p) e f h l = go (after q c) refl
+row-opened s at stop end q (row c fs p) e f h l = go (pastAll fs s stop (at + 6)) (after q c) refl refl
   where
-    go : (n : Next) → after q c ≡ n → Opened s at end q (startIf (pastAll fs s stop (at + 6)) stop p n)
-    go refused z = shut
-    go (left m) z =
-        let g : Past (at + 6) stop (pastAll fs s stop (at + 6)) = fields-past fs s stop (at + 6) h in
-        picked (Opened s at end q) (eqb (pastAll fs s stop (at + 6)) 0) _ _ (λ _. shut) (λ y. open' (record { is = e; stop-is = f; body-is = refl; low = g .1 (eqb-false _ _ y); mid = g .0; high = l }) z)
+    go : (o : Option ℕ) (n : Next) → pastAll fs s stop (at + 6) ≡ o → after q c ≡ n → Opened s at end q (startIf o stop p n)
+    go o refused y z = shut
+    go none (left m) y z = shut
+    go (some b) (left m) y z =
+        let g : Ends fs s stop (at + 6) b = all-past fs s stop (at + 6) b y h in
+        open' (record { is = e; stop-is = f; valid = y; body-is = g .is; low = g .low; mid = g .high; high = l }) z
 
 opened : (s : List ℕ) (at end : ℕ) (q : Pattern) → Opened s at end q (startAt s at end q)
 unfolding startAt

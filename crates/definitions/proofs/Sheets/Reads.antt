@@ -1,22 +1,21 @@
 -- What is read from a sheet that passed the check fits its row. Assumes nothing.
-use mathlib.Core.Path.{_≡_, refl, ap, ap₂, sym, _∙_, subst}
+use mathlib.Core.Path.{_≡_, refl, ap}
 use mathlib.Core.Bool.{Bool, true, false}
 use mathlib.Core.List.{List, [], _∷_}
-use mathlib.Core.Option.{Option, none, some}
-use Prim.Native.Nat.{ℕ, zero, suc, _+_, _-_, _*_, _/_, _%_, _^_, _<_, _≤_}
-use native.Mathlib.Nat.{pow-suc}
+use mathlib.Core.Option.{none, some}
+use Prim.Native.Nat.{ℕ, zero, suc, _+_, _-_, _/_, _%_, _^_, _<_, _≤_}
 use native.Mathlib.Omega.{arith}
 use lib.Dec.{leb, eqb, lit<}
-use lib.ListN.{getD, length}
-use borrow.Author.Tests.{leb-true, eqb-true, eqb-false, eq-eqb, ne-eqb}
+use lib.ListN.{length}
+use borrow.Author.Tests.{leb-true, eqb-false}
 use Rattle.definitions.specs.Grammar.{Class, number}
 use Rattle.definitions.specs.Fields.{Bytes, le}
 use Rattle.definitions.specs.Grammar.{Entry, Field, Pattern, counted, irType, listed, nameAndType, optional, rows, single, upTo, valueAndType}
 use Rattle.definitions.specs.Ir.{IrType, nameOf}
-use Rattle.definitions.specs.Records.{after, left, mayEnd, Item, Tree, Trees, Value, group, item, node, okItem, okItems, okType, opt, optFrom, pair, param, past, pastAll, pick, readItem, readItems, readRecords, readValue, readValues, rest, row, rowFields, rowIn, sizeOf, small, tcons, tnil, ty, typeFrom, word}
+use Rattle.definitions.specs.Records.{after, left, mayEnd, Item, Tree, Trees, Value, fieldEnd, node, okField, okItem, okItems, okType, opt, optFrom, pastAll, pick, readItem, readItems, readRecords, readValue, readValues, rest, row, rowIn, sizeOf, tcons, tnil, typeFrom}
 use Rattle.definitions.proofs.Fields.{le-low}
 use Rattle.definitions.proofs.Sheets.Fits.{FitItem, fitSmall, fitNone, fitSome, fitRaw, fitType, fitParam, fitPair, FitItems, noItem, andItem, FitValue, fitOne, fitGroup}
-use Rattle.definitions.proofs.Sheets.Passed.{picked, past-zero, Head, Fine, ends, goes, read-end, read-step}
+use Rattle.definitions.proofs.Sheets.Passed.{picked, both-true, counted-ok, first-past, Fine, ends, goes, read-end, read-step}
 
 abbrev LowName : IrType → Type 0
 LowName t = nameOf t < 65535
@@ -27,10 +26,6 @@ type-low t n e =
     let z : 0 < 65535 = lit< tt in
     picked LowName (eqb t 0) _ _ (λ _. z) (λ _. picked LowName (eqb t 1) _ _ (λ _. z) (λ _. picked LowName (eqb t 2) _ _ (λ _. z)
     (λ _. picked LowName (eqb t 3) _ _ (λ q. let l : n ≤ 65534 = leb-true n 65534 (rw q at e) in omega arith) (λ _. z))))
-
-pub both-true : (a b : Bool) → pick a b false ≡ true → (a ≡ true) × (b ≡ true)
-both-true true b e = (refl, e)
-both-true false b e = absurd (let z : _≡_ {A = ℕ} 0 1 = cc in omega arith)
 
 item-fits : (e : Entry) (s : List ℕ) (at : ℕ) → Bytes s → okItem e s at ≡ true → FitItem e (readItem e s at)
 unfolding okItem readItem optFrom
@@ -74,37 +69,18 @@ pub data Holds : List Field → List Value → Type 0 where
   hcons : {f : Field} {v : Value} {fs : List Field} {vs : List Value} → FitValue f v → Holds fs vs → Holds (f ∷ fs) (v ∷ vs)
   hrest : {e : Entry} {is : List Item} {fs : List Field} {vs : List Value} → FitItems e is → Holds fs vs → Holds (listed e ∷ fs) (rest is ∷ vs)
 
-passed : (b : Bool) (x : ℕ) → (pick b x 0 ≡ 0 → ⊥) → (b ≡ true) × (x ≡ 0 → ⊥)
-passed true x h = (refl, h)
-passed false x h = absurd (h refl)
-
-value-holds : (f : Field) {fs : List Field} {vs : List Value} (s : List ℕ) (stop at : ℕ) → Bytes s → (past f s stop at ≡ 0 → ⊥) → Holds fs vs → Holds (f ∷ fs) (readValue f s stop at ∷ vs)
-unfolding past readValue
-value-holds (single e) s stop at h n r =
-    let a = passed (leb (sizeOf e) (stop - at)) _ n in
-    let b = passed (okItem e s at) _ (a .1) in
-    hcons (fitOne (item-fits e s at h (b .0))) r
-value-holds (counted e) s stop at h n r =
-    let a = passed (leb 2 (stop - at)) _ n in
-    let b = passed (leb (sizeOf e * le 2 s at) (stop - (at + 2))) _ (a .1) in
-    let c = passed (okItems e (le 2 s at) s (at + 2)) _ (b .1) in
+value-holds : (f : Field) {fs : List Field} {vs : List Value} (s : List ℕ) (stop at : ℕ) → Bytes s → okField f s stop at ≡ true → Holds fs vs → Holds (f ∷ fs) (readValue f s stop at ∷ vs)
+unfolding okField readValue
+value-holds (single e) s stop at h o r = hcons (fitOne (item-fits e s at h (both-true (leb (sizeOf e) (stop - at)) _ o .1))) r
+value-holds (counted e) s stop at h o r =
     let k : length (readItems e (le 2 s at) s (at + 2)) < 65536 = rw items-count (le-low 2 s at h) in
-    hcons (fitGroup k (items-fit e (le 2 s at) s (at + 2) h (c .0))) r
-value-holds (listed e) s stop at h n r =
-    let a = passed (eqb ((stop - at) % sizeOf e) 0) _ n in
-    let b = passed (okItems e ((stop - at) / sizeOf e) s at) _ (a .1) in
-    hrest (items-fit e ((stop - at) / sizeOf e) s at h (b .0)) r
+    hcons (fitGroup k (items-fit e (le 2 s at) s (at + 2) h (counted-ok e s stop at o .2))) r
+value-holds (listed e) s stop at h o r = hrest (items-fit e ((stop - at) / sizeOf e) s at h (both-true (eqb ((stop - at) % sizeOf e) 0) _ o .1)) r
 
-values-hold : (fs : List Field) (s : List ℕ) (stop at : ℕ) → Bytes s → (pastAll fs s stop at ≡ 0 → ⊥) → Holds fs (readValues fs s stop at)
-unfolding pastAll readValues
-values-hold [] s stop at h n = hnil
-values-hold (f ∷ fs) s stop at h n =
-    let m : pastAll fs s stop (past f s stop at) ≡ 0 → ⊥ = rest-passed (eqb at 0) n in
-    value-holds f s stop at h (λ z. m (ap (pastAll fs s stop) z ∙ past-zero fs s stop)) (values-hold fs s stop (past f s stop at) h m)
-  where
-    rest-passed : (b : Bool) → (pick b 0 (pastAll fs s stop (past f s stop at)) ≡ 0 → ⊥) → pastAll fs s stop (past f s stop at) ≡ 0 → ⊥
-    rest-passed true k = absurd (k refl)
-    rest-passed false k = k
+values-hold : (fs : List Field) (s : List ℕ) (stop at : ℕ) {b : ℕ} → Bytes s → pastAll fs s stop at ≡ some b → Holds fs (readValues fs s stop at)
+unfolding readValues
+values-hold [] s stop at h e = hnil
+values-hold (f ∷ fs) s stop at h e = let a = first-past f fs s stop at e in value-holds f s stop at h (a .0) (values-hold fs s stop (fieldEnd f s stop at) h (a .1))
 
 -- a tree of a class, and trees that follow a pattern: every record has a row, its fields hold what the row asks
 mutual
@@ -119,6 +95,4 @@ mutual
 pub reads : {s : List ℕ} {at end : ℕ} {q : Pattern} → Bytes s → Fine s at end q → Reads q (readRecords s at end)
 reads {s} {at} {end} h (ends z m) = rw (← z) (rw (read-end s at) (rnil m))
 reads {s} {at} {end} h (goes {b = b} {stop = stop} {fs = fs} hd a kids more) =
-    let l : at + 6 ≤ b = hd .low in
-    let n : pastAll fs s stop (at + 6) ≡ 0 → ⊥ = (λ z. omega (arith, hd .body-is, z)) in
-    rw (read-step hd kids more) (rcons a (rnode (hd .is) (values-hold fs s stop (at + 6) h n) (reads h kids)) (reads h more))
+    rw (read-step hd kids more) (rcons a (rnode (hd .is) (values-hold fs s stop (at + 6) h (hd .valid)) (reads h kids)) (reads h more))

@@ -1,15 +1,16 @@
 -- The values of a record whose first fields are single entries, by position. Assumes nothing.
-use mathlib.Core.Path.{_≡_, refl, ap, _∙_}
-use mathlib.Core.Bool.{Bool, true, false}
+use mathlib.Core.Path.{_≡_, refl, ap}
+use mathlib.Core.Bool.{true}
 use mathlib.Core.List.{List, [], _∷_, _++_, map}
+use mathlib.Core.Option.{some}
 use Prim.Native.Nat.{ℕ, _+_, _-_, _*_, _≤_}
 use native.Mathlib.Omega.{arith}
-use lib.Dec.{leb, eqb}
-use borrow.Author.Tests.{leb-true, ne-eqb}
+use lib.Dec.{leb}
+use borrow.Author.Tests.{leb-true}
 use Rattle.definitions.specs.Fields.{le}
 use Rattle.definitions.specs.Grammar.{Class, Entry, Field, single, counted, Pattern}
-use Rattle.definitions.specs.Records.{pick, Value, item, group, sizeOf, okItem, okItems, readItem, readItems, past, readValue, pastAll, readValues}
-use Rattle.definitions.proofs.Sheets.Passed.{Head, past-zero}
+use Rattle.definitions.specs.Records.{Value, item, sizeOf, okItem, okItems, readItem, fieldEnd, okField, readValue, pastAll, fieldsEnd, readValues}
+use Rattle.definitions.proofs.Sheets.Passed.{both-true, counted-ok, first-past, all-past, Head}
 
 -- the entries from `at + off` on, their values, where they end, and that each is valid
 unfoldable pub itemsFrom : List Entry → List ℕ → ℕ → ℕ → List Value
@@ -24,91 +25,46 @@ unfoldable pub Valid : List Entry → List ℕ → ℕ → ℕ → Type 0
 Valid [] s at off = Unit {0}
 Valid (e ∷ es) s at off = (okItem e s (at + off) ≡ true) × Valid es s at (off + sizeOf e)
 
-passed : (b : Bool) (x : ℕ) → (pick b x 0 ≡ 0 → ⊥) → (b ≡ true) × (x ≡ 0 → ⊥)
-passed true x h = (refl, h)
-passed false x h = absurd (h refl)
-
-record One (e : Entry) (s : List ℕ) (stop at : ℕ) : Type 0 where
-  ok : okItem e s at ≡ true
-  fits : sizeOf e ≤ stop - at
-  is : past (single e) s stop at ≡ at + sizeOf e
-
-one : (e : Entry) (s : List ℕ) (stop at : ℕ) → (past (single e) s stop at ≡ 0 → ⊥) → One e s stop at
-unfolding past
-one e s stop at h =
-    let a = passed (leb (sizeOf e) (stop - at)) _ h in
-    let b = passed (okItem e s at) _ (a .1) in
-    record { ok = b .0; fits = leb-true _ _ (a .0); is = rw (a .0, b .0) }
-
-rest-passed : (f : Field) (fs : List Field) (s : List ℕ) (stop at : ℕ) → (pastAll (f ∷ fs) s stop at ≡ 0 → ⊥) → pastAll fs s stop (past f s stop at) ≡ 0 → ⊥
-unfolding pastAll
-rest-passed f fs s stop at h = go (eqb at 0) h
-  where
-    go : (t : Bool) → (pick t 0 (pastAll fs s stop (past f s stop at)) ≡ 0 → ⊥) → pastAll fs s stop (past f s stop at) ≡ 0 → ⊥
-    go true k = absurd (k refl)
-    go false k = k
-
 -- THE LAW: a record's values are these, then what the fields after them give; and the children start where those end
-record Singles (es : List Entry) (fs : List Field) (s : List ℕ) (stop at off : ℕ) : Type 0 where
+record Singles (es : List Entry) (fs : List Field) (s : List ℕ) (stop at off b : ℕ) : Type 0 where
   values : readValues (map single es ++ fs) s stop (at + off) ≡ itemsFrom es s at off ++ readValues fs s stop (at + after es off)
-  past : pastAll (map single es ++ fs) s stop (at + off) ≡ pastAll fs s stop (at + after es off)
-  more : pastAll fs s stop (at + after es off) ≡ 0 → ⊥
+  more : pastAll fs s stop (at + after es off) ≡ some b
   valid : Valid es s at off
-  fits : at + off ≤ stop → at + after es off ≤ stop
+  fits : at + after es off ≤ stop
 
-singles : (es : List Entry) (fs : List Field) (s : List ℕ) (stop at off : ℕ) → (pastAll (map single es ++ fs) s stop (at + off) ≡ 0 → ⊥) → Singles es fs s stop at off
-unfolding itemsFrom after Valid readValues readValue pastAll
-singles [] fs s stop at off h = record { values = refl; past = refl; more = h; valid = tt; fits = λ z. z }
-singles (e ∷ es) fs s stop at off h =
-    let r : pastAll (map single es ++ fs) s stop (past (single e) s stop (at + off)) ≡ 0 → ⊥ = rest-passed (single e) (map single es ++ fs) s stop (at + off) h in
-    let o : One e s stop (at + off) = one e s stop (at + off) (λ z. r (ap (pastAll (map single es ++ fs) s stop) z ∙ past-zero (map single es ++ fs) s stop)) in
-    let w : past (single e) s stop (at + off) ≡ at + (off + sizeOf e) = o .is ∙ omega arith in
-    let i : Singles es fs s stop at (off + sizeOf e) = singles es fs s stop at (off + sizeOf e) (rw w at r) in
-    let nz : at + off ≡ 0 → ⊥ = (λ z. h (ap (pastAll (map single (e ∷ es) ++ fs) s stop) z ∙ past-zero (map single (e ∷ es) ++ fs) s stop)) in
-    record {
-      values = rw w (ap (λ (l : List Value). item (readItem e s (at + off)) ∷ l) (i .values));
-      past = rw (ne-eqb (at + off) 0 nz, w) (i .past);
-      more = i .more;
-      valid = (o .ok, i .valid);
-      fits = λ z. i .fits (omega (arith, o .fits));
-    }
+singles : (es : List Entry) (fs : List Field) (s : List ℕ) (stop at off : ℕ) {b : ℕ} → pastAll (map single es ++ fs) s stop (at + off) ≡ some b → at + off ≤ stop → Singles es fs s stop at off b
+unfolding itemsFrom after Valid readValues readValue okField fieldEnd
+singles [] fs s stop at off h l = record { values = refl; more = h; valid = tt; fits = l }
+singles (e ∷ es) fs s stop at off {b} h l =
+    let p = first-past (single e) (map single es ++ fs) s stop (at + off) h in
+    let o = both-true (leb (sizeOf e) (stop - (at + off))) _ (p .0) in
+    let f : sizeOf e ≤ stop - (at + off) = leb-true _ _ (o .0) in
+    let w : at + off + sizeOf e ≡ at + (off + sizeOf e) = omega arith in
+    let i : Singles es fs s stop at (off + sizeOf e) b = singles es fs s stop at (off + sizeOf e) (rw w at (p .1)) (omega arith) in
+    record { values = rw w (ap (λ (l : List Value). item (readItem e s (at + off)) ∷ l) (i .values)); more = i .more; valid = (o .1, i .valid); fits = i .fits }
 
 -- the same of a record that passed, whose children start at b
 pub record Starts (es : List Entry) (fs : List Field) (s : List ℕ) (at b stop : ℕ) : Type 0 where
   pub values : readValues (map single es ++ fs) s stop (at + 6) ≡ itemsFrom es s at 6 ++ readValues fs s stop (at + after es 6)
-  pub body : b ≡ pastAll fs s stop (at + after es 6)
-  pub more : pastAll fs s stop (at + after es 6) ≡ 0 → ⊥
+  pub more : pastAll fs s stop (at + after es 6) ≡ some b
+  pub body : b ≡ fieldsEnd fs s stop (at + after es 6)
   pub valid : Valid es s at 6
   pub fits : at + after es 6 ≤ stop
 
 pub starts : {c : Class} {p : Pattern} {s : List ℕ} {at end b stop : ℕ} (es : List Entry) (fs : List Field) → Head s at end c (map single es ++ fs) p b stop → Starts es fs s at b stop
-starts {s = s} {at = at} {stop = stop} es fs hd =
-    let S : Singles es fs s stop at 6 = singles es fs s stop at 6 (λ z. omega (arith, hd .body-is, hd .low, z)) in
-    record { values = S .values; body = hd .body-is ∙ S .past; more = S .more; valid = S .valid; fits = S .fits (omega (arith, hd .low, hd .mid)) }
+starts {s = s} {at = at} {b = b} {stop = stop} es fs hd =
+    let S : Singles es fs s stop at 6 b = singles es fs s stop at 6 (hd .valid) (omega (arith, hd .low, hd .mid)) in
+    record { values = S .values; more = S .more; body = all-past fs s stop (at + after es 6) b (S .more) (S .fits) .is; valid = S .valid; fits = S .fits }
 
--- a counted field, and then the others
-pub record Counted (e : Entry) (fs : List Field) (s : List ℕ) (stop at : ℕ) : Type 0 where
-  pub values : readValues (counted e ∷ fs) s stop at ≡ group (readItems e (le 2 s at) s (at + 2)) ∷ readValues fs s stop (at + 2 + sizeOf e * le 2 s at)
-  pub past : pastAll (counted e ∷ fs) s stop at ≡ pastAll fs s stop (at + 2 + sizeOf e * le 2 s at)
-  pub more : pastAll fs s stop (at + 2 + sizeOf e * le 2 s at) ≡ 0 → ⊥
+-- a list with a count, and then the others
+pub record Counted (e : Entry) (fs : List Field) (s : List ℕ) (stop at b : ℕ) : Type 0 where
+  pub more : pastAll fs s stop (at + 2 + sizeOf e * le 2 s at) ≡ some b
   pub fits : at + 2 + sizeOf e * le 2 s at ≤ stop
   pub valid : okItems e (le 2 s at) s (at + 2) ≡ true
 
-pub counted-field : (e : Entry) (fs : List Field) (s : List ℕ) (stop at : ℕ) → (pastAll (counted e ∷ fs) s stop at ≡ 0 → ⊥) → Counted e fs s stop at
-unfolding past readValues readValue pastAll
+pub counted-field : (e : Entry) (fs : List Field) (s : List ℕ) (stop at : ℕ) {b : ℕ} → pastAll (counted e ∷ fs) s stop at ≡ some b → Counted e fs s stop at b
+unfolding fieldEnd
 counted-field e fs s stop at h =
-    let r : pastAll fs s stop (past (counted e) s stop at) ≡ 0 → ⊥ = rest-passed (counted e) fs s stop at h in
-    let n : past (counted e) s stop at ≡ 0 → ⊥ = (λ z. r (ap (pastAll fs s stop) z ∙ past-zero fs s stop)) in
-    let a = passed (leb 2 (stop - at)) _ n in
-    let b = passed (leb (sizeOf e * le 2 s at) (stop - (at + 2))) _ (a .1) in
-    let c = passed (okItems e (le 2 s at) s (at + 2)) _ (b .1) in
-    let x : 2 ≤ stop - at = leb-true _ _ (a .0) in
-    let y : sizeOf e * le 2 s at ≤ stop - (at + 2) = leb-true _ _ (b .0) in
-    let nz : at ≡ 0 → ⊥ = (λ z. h (ap (pastAll (counted e ∷ fs) s stop) z ∙ past-zero (counted e ∷ fs) s stop)) in
-    record {
-      values = rw (a .0, b .0, c .0);
-      past = rw (ne-eqb at 0 nz, a .0, b .0, c .0);
-      more = rw (a .0, b .0, c .0) at r;
-      fits = omega arith;
-      valid = c .0;
-    }
+    let p = first-past (counted e) fs s stop at h in
+    let c = counted-ok e s stop at (p .0) in
+    record { more = p .1; fits = omega (arith, c .0, c .1); valid = c .2 }

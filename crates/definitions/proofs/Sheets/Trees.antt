@@ -1,18 +1,18 @@
 -- Trees that fit: their bytes have the form, and are read back. Assumes nothing.
 use mathlib.Core.Path.{_≡_, refl, ap, ap₂, sym, _∙_}
-use mathlib.Core.Bool.{Bool, true, false}
-use mathlib.Core.List.{List, [], _∷_, _++_}
-use Prim.Native.Nat.{ℕ, zero, suc, _+_, _-_, _*_, _/_, _%_, _^_, _<_, _≤_}
+use mathlib.Core.List.{List, _++_}
+use mathlib.Core.Option.{some}
+use Prim.Native.Nat.{ℕ, zero, suc, _+_, _-_, _^_, _<_, _≤_}
 use native.Mathlib.Nat.{not-suc-le-zero}
 use native.Mathlib.Omega.{arith}
-use lib.Dec.{leb, eqb}
 use lib.ListN.{length, length-append}
 use borrow.Author.Tests.{le-leb, ne-eqb, eq-eqb}
 use Rattle.definitions.specs.Fields.{bytes, le}
 use Rattle.definitions.specs.Grammar.{Class, Field, Pattern, rows}
-use Rattle.definitions.specs.Records.{Bad, Form, Good, Next, Row, Start, Tree, Trees, Value, after, andThen, checkRecords, checkRest, left, mayEnd, node, pastAll, pick, readNode, readValues, recordsFrom, row, rowFields, rowIn, startAt, startIf, startRow, starts, tcons, tnil, treesFrom, writeRecord, writeTree, writeTrees, writeValues}
-use Rattle.definitions.proofs.Sheets.Fits.{FitValues, FitTree, fitNode, FitTrees, noTree, andTree}
-use Rattle.definitions.proofs.Fields.{Stands, Both, split, le-bytes, length-bytes}
+use Rattle.definitions.specs.Records.{Good, Tree, Trees, Value, after, andThen, checkRest, fieldsEnd, left, node, pastAll, readNode, recordsFrom, row, rowFields, rowIn, startAt, startIf, startRow, starts, tcons, tnil, treesFrom, writeRecord, writeTree, writeTrees, writeValues}
+use Rattle.definitions.proofs.Sheets.Fits.{FitTree, fitNode, FitTrees, noTree, andTree}
+use Rattle.definitions.proofs.Fields.{Stands, Both, split, le-bytes}
+use Rattle.definitions.proofs.Sheets.Passed.{all-past}
 use Rattle.definitions.proofs.Sheets.Values.{ValuesOk, values-law}
 
 -- trees as they are read where their bytes stand from `at` on: each node with its place
@@ -52,13 +52,16 @@ module _ (k : ℕ) (q : Pattern) (at n v b : ℕ) {c : Class} {fs : List Field} 
     (r : rowIn k rows ≡ row c fs p) (a : after q c ≡ left q') (size : le 4 s at ≡ 6 + b) (kind : le 2 s (at + 4) ≡ k)
     (vals : ValuesOk fs vs s (at + (6 + b)) (at + 6)) (v-is : length (writeValues vs) ≡ v) (fits : at + (6 + b) ≤ end)
     (inner : TreesOk n p ts s (at + 6 + v) (at + (6 + b))) (next : TreesOk n q' us s (at + (6 + b)) end) where
-  body-is : pastAll fs s (at + (6 + b)) (at + 6) ≡ at + 6 + v
-  body-is = vals .past ∙ ap (λ (x : ℕ). at + 6 + x) v-is
+  past-is : pastAll fs s (at + (6 + b)) (at + 6) ≡ some (at + 6 + v)
+  past-is = vals .past ∙ ap (λ (x : ℕ). some (at + 6 + x)) v-is
+
+  body-is : fieldsEnd fs s (at + (6 + b)) (at + 6) ≡ at + 6 + v
+  body-is = sym (all-past fs s (at + (6 + b)) (at + 6) (at + 6 + v) past-is (omega arith) .is)
 
   start-is : startAt s at end q ≡ starts (at + 6 + v) (at + (6 + b)) p q'
   unfolding startAt startRow startIf
   start-is =
-      rw (size, kind, le-leb 6 (end - at) (omega arith), le-leb 6 (6 + b) (omega arith), le-leb (6 + b) (end - at) (omega arith), r, startRow, a, startIf, body-is, ne-eqb (at + 6 + v) 0 (λ e. omega arith))
+      rw (size, kind, le-leb 6 (end - at) (omega arith), le-leb 6 (6 + b) (omega arith), le-leb (6 + b) (end - at) (omega arith), r, startRow, a, past-is, startIf)
 
   one-step : TreesOk (suc n) q (tcons (node at k vs ts) us) s at end
   unfolding recordsFrom treesFrom checkRest andThen readNode rowFields
@@ -83,7 +86,7 @@ mutual
       let hd : HeadOk k body s at = head-law k body k-fits (omega arith) h in
       let b : Both s (at + 6) (writeValues vs) (writeTrees ts) = split (writeValues vs) (hd .inside) in
       let bl : length body ≡ length (writeValues vs) + length (writeTrees ts) = length-append (writeValues vs) (writeTrees ts) in
-      let vals : ValuesOk fs vs s (at + (6 + length body)) (at + 6) = values-law fit (b .front) (omega arith) (omega arith) in
+      let vals : ValuesOk fs vs s (at + (6 + length body)) (at + 6) = values-law fit (b .front) (omega arith) in
       one-step k q at n (length (writeValues vs)) (length body) r a (hd .size) (hd .kind) vals refl (omega arith)
       (trees-law kids n (omega arith) (b .back) (omega arith) (omega arith)) (rw wl at next)
 

@@ -1,8 +1,8 @@
 -- A sheet that passed the check is what is written of the records that are read from it: no byte is overlooked. Assumes nothing.
-use mathlib.Core.Path.{_≡_, refl, ap, sym, _∙_}
-use mathlib.Core.Bool.{Bool, true}
+use mathlib.Core.Path.{_≡_, refl, sym, _∙_}
+use mathlib.Core.Bool.{true}
 use mathlib.Core.List.{List, [], _∷_, _++_}
-use mathlib.Core.Option.{Option}
+use mathlib.Core.Option.{Option, some}
 use Prim.Native.Nat.{ℕ, zero, suc, _+_, _-_, _*_, _/_, _%_, _≤_}
 use native.Mathlib.Nat.{mul-suc, mul-zero, add-zero, div-add-mod}
 use native.Mathlib.Omega.{arith}
@@ -12,10 +12,10 @@ use borrow.Author.Tests.{leb-true, eqb-true, eqb-false}
 use Rattle.definitions.specs.Fields.{Bytes, bytes, le}
 use Rattle.definitions.specs.Grammar.{Entry, upTo, optional, number, irType, valueAndType, nameAndType, Field, single, counted, listed, Pattern}
 use Rattle.definitions.specs.Ir.{IrType, nameOf, tagOf}
-use Rattle.definitions.specs.Records.{opt, okItem, okItems, okType, optFrom, past, pastAll, readItem, readItems, readRecords, readValue, readValues, sizeOf, typeFrom, writeItem, writeItems, writeRecord, writeTrees, writeType, writeValue, writeValues}
+use Rattle.definitions.specs.Records.{opt, fieldEnd, fieldsEnd, okField, okItem, okItems, okType, optFrom, pastAll, readItem, readItems, readRecords, readValue, readValues, sizeOf, typeFrom, writeItem, writeItems, writeRecord, writeTrees, writeType, writeValue, writeValues}
 use Rattle.definitions.proofs.Fields.{Stands, nil, join, bytes-le, length-bytes}
-use Rattle.definitions.proofs.Sheets.Passed.{picked, field-past, past-zero, Fine, ends, goes, read-end, read-step}
-use Rattle.definitions.proofs.Sheets.Reads.{both-true, items-count}
+use Rattle.definitions.proofs.Sheets.Passed.{picked, both-true, counted-ok, field-within, first-past, Fine, ends, goes, read-end, read-step}
+use Rattle.definitions.proofs.Sheets.Reads.{items-count}
 
 -- the bytes b stand from `at` to `stop`
 pub record Lies (s : List ℕ) (at stop : ℕ) (b : List ℕ) : Type 0 where
@@ -77,35 +77,22 @@ module _ {s : List ℕ} (h : Bytes s) where
       let z : at + sizeOf e + sizeOf e * n ≡ at + sizeOf e * suc n = rw mul-suc (omega arith) in
       rw z at (both (item-lies e at (b .0)) (items-lie e n (at + sizeOf e) (b .1)))
 
-  -- what stands up to the place after a field, where that is not 0
-  abbrev To : ℕ → List ℕ → ℕ → Type 0
-  To at b x = (x ≡ 0 → ⊥) → Lies s at x b
+  value-lies : (f : Field) (stop at : ℕ) → okField f s stop at ≡ true → at ≤ stop → Lies s at (fieldEnd f s stop at) (writeValue (readValue f s stop at))
+  unfolding okField fieldEnd readValue writeValue
+  value-lies (single e) stop at o l = item-lies e at (both-true (leb (sizeOf e) (stop - at)) _ o .1)
+  value-lies (counted e) stop at o l =
+      rw items-count (both (number-lies 2 at) (items-lie e (le 2 s at) (at + 2) (counted-ok e s stop at o .2)))
+  value-lies (listed e) stop at o l =
+      let b = both-true (eqb ((stop - at) % sizeOf e) 0) _ o in
+      let z : at + sizeOf e * ((stop - at) / sizeOf e) ≡ stop = omega (arith, eqb-true ((stop - at) % sizeOf e) 0 (b .0), div-add-mod (stop - at) (sizeOf e)) in
+      rw z at (items-lie e ((stop - at) / sizeOf e) at (b .1))
 
-  no-place : {at : ℕ} {b : List ℕ} {t u : Bool} → t ≡ u → To at b 0
-  no-place _ z = absurd (z refl)
-
-  value-lies : (f : Field) (stop at : ℕ) → at ≤ stop → To at (writeValue (readValue f s stop at)) (past f s stop at)
-  unfolding past readValue writeValue
-  value-lies (single e) stop at l =
-      let P : ℕ → Type 0 = To at (writeItem (readItem e s at)) in
-      picked P (leb (sizeOf e) (stop - at)) _ _ (λ _. picked P (okItem e s at) _ _ (λ q _. item-lies e at q) no-place) no-place
-  value-lies (counted e) stop at l =
-      let P : ℕ → Type 0 = To at (bytes 2 (length (readItems e (le 2 s at) s (at + 2))) ++ writeItems (readItems e (le 2 s at) s (at + 2))) in
-      picked P (leb 2 (stop - at)) _ _ (λ _. picked P (leb (sizeOf e * le 2 s at) (stop - (at + 2))) _ _ (λ _. picked P (okItems e (le 2 s at) s (at + 2)) _ _
-      (λ q _. rw items-count (both (number-lies 2 at) (items-lie e (le 2 s at) (at + 2) q))) no-place) no-place) no-place
-  value-lies (listed e) stop at l =
-      let P : ℕ → Type 0 = To at (writeItems (readItems e ((stop - at) / sizeOf e) s at)) in
-      picked P (eqb ((stop - at) % sizeOf e) 0) _ _ (λ m. picked P (okItems e ((stop - at) / sizeOf e) s at) _ _ (λ q _.
-      let z : at + sizeOf e * ((stop - at) / sizeOf e) ≡ stop = omega (arith, eqb-true ((stop - at) % sizeOf e) 0 m, div-add-mod (stop - at) (sizeOf e)) in
-      rw z at (items-lie e ((stop - at) / sizeOf e) at q)) no-place) no-place
-
-  values-lie : (fs : List Field) (stop at : ℕ) → at ≤ stop → To at (writeValues (readValues fs s stop at)) (pastAll fs s stop at)
-  unfolding pastAll readValues writeValues
-  values-lie [] stop at l = λ _. none-lies at
-  values-lie (f ∷ fs) stop at l =
-      let next : ℕ = past f s stop at in
-      picked (To at (writeValue (readValue f s stop at) ++ writeValues (readValues fs s stop next))) (eqb at 0) _ _ no-place
-      (λ _ z. both (value-lies f stop at l (λ y. z (ap (pastAll fs s stop) y ∙ past-zero fs s stop))) (values-lie fs stop next (field-past f s stop at l .0) z))
+  values-lie : (fs : List Field) (stop at : ℕ) {b : ℕ} → pastAll fs s stop at ≡ some b → at ≤ stop → Lies s at (fieldsEnd fs s stop at) (writeValues (readValues fs s stop at))
+  unfolding fieldsEnd readValues writeValues
+  values-lie [] stop at e l = none-lies at
+  values-lie (f ∷ fs) stop at e l =
+      let a = first-past f fs s stop at e in
+      both (value-lies f stop at (a .0) l) (values-lie fs stop (fieldEnd f s stop at) (a .1) (field-within f s stop at (a .0) l .1))
 
   record-lies : {at stop : ℕ} {body : List ℕ} → stop ≡ at + le 4 s at → Lies s (at + 6) stop body → Lies s at stop (writeRecord (le 2 s (at + 4)) body)
   unfolding writeRecord
@@ -119,8 +106,5 @@ module _ {s : List ℕ} (h : Bytes s) where
   unfolding writeTrees
   trees-lie {at} {end} (ends z m) = rw (← z) (rw (read-end s at) (none-lies at))
   trees-lie {at} {end} (goes {b = b} {stop = stop} {fs = fs} hd a kids more) =
-      let l : at + 6 ≤ b = hd .low in
-      let m : b ≤ stop = hd .mid in
-      let e : b ≡ pastAll fs s stop (at + 6) = hd .body-is in
-      let v : Lies s (at + 6) b (writeValues (readValues fs s stop (at + 6))) = rw e (values-lie fs stop (at + 6) (omega arith) (λ z. omega arith)) in
+      let v : Lies s (at + 6) b (writeValues (readValues fs s stop (at + 6))) = rw (hd .body-is) (values-lie fs stop (at + 6) (hd .valid) (omega (arith, hd .low, hd .mid))) in
       rw (read-step hd kids more) (both (record-lies (hd .stop-is) (both v (trees-lie kids))) (trees-lie more))

@@ -1,9 +1,8 @@
 -- `fields::clear`: what is left of the run is stored from `to` on. Assumes nothing.
-use mathlib.Core.Path.{_≡_, refl, sym, ap, _∙_, subst}
-use Prim.Native.Nat.{ℕ, _+_, _-_, _*_, _≤_, _<_}
+use mathlib.Core.Path.{_≡_, refl, sym, _∙_}
+use Prim.Native.Nat.{_-_, _≤_}
 use native.Mathlib.Omega.{arith}
 use borrow.Author.Needs.{needs}
-use native.Mathlib.Nat.{sub-self}
 use lib.ListN.{length, length-set, replicate}
 use lib.Seq.{sets}
 use Rattle.fields.proofs.Writing.{zeros-front}

@@ -1,5 +1,5 @@
 -- `ir::type_of`: an arm for each tag. Assumes nothing.
-use mathlib.Core.Path.{_≡_, refl, ap, sym}
+use mathlib.Core.Path.{_≡_, ap, sym}
 use Prim.Native.Nat.{ℕ}
 use borrow.Author.Tests.{ne-eqb}
 use Rattle.definitions.specs.Ir as defs

@@ -1,11 +1,10 @@
 -- `lines::lower_line`: the line of what `lower` answers, from the sheet in the output or from the numbers. Assumes nothing.
 use mathlib.Core.Path.{_≡_, sym, ap, _∙_}
-use mathlib.Core.List.{List}
-use Prim.Native.Nat.{ℕ, _≤_}
+use Prim.Native.Nat.{_≤_}
 use native.Mathlib.Omega.{arith}
 use lib.ListN.{length, take}
-use Rattle.definitions.specs.Result.{Result, ok}
-use Rattle.definitions.specs.Answers.{Refusal, lengthNumbers, lowerSheet, lengthOf}
+use Rattle.definitions.specs.Result.{ok}
+use Rattle.definitions.specs.Answers.{lengthNumbers, lowerSheet, lengthOf}
 use Rattle.definitions.specs.Lines.{lineOf, loweredLine}
 use Rattle.lower.specs.Whole.{answerOf}
 use Rattle.lines.proofs.Spaced.{told}

@@ -1,7 +1,7 @@
 -- `finish`: the head in front of what is laid down. Assumes nothing.
 use mathlib.Core.Path.{_≡_, ap, _∙_}
 use mathlib.Core.List.{List}
-use Prim.Native.Nat.{ℕ, _+_, _≤_, _<_}
+use Prim.Native.Nat.{ℕ, _≤_}
 use native.Mathlib.Omega.{arith}
 use borrow.Author.Needs.{needs}
 use lib.ListN.{length}
@@ -10,24 +10,16 @@ use Rattle.definitions.specs.Fields.{bytes}
 use Rattle.lower.proofs.Fill.{room-low, behind-head, refused-31, accepted}
 use Rattle.lower.proofs.finish.Statement.{statement}
 use Rattle.lower.proofs.finish.Tie as tie
-use Rattle.lower.proofs.finish.Reads as reads
-use Rattle.lower.proofs.finish.Lts as lts
-use Rattle.fields.proofs.write.Reads as write-reads
-use Rattle.layout.proofs.room.Reads as room-reads
 
--- src/lib.rt:285:8
 room-requires : tie.Need-room-requires
 room-requires c κs = search needs
 
--- src/lib.rt:286:9
 same-length : tie.Need-same-length
 same-length c = search needs
 
--- src/lib.rt:286:9
 returns : tie.Need-returns
 returns c before body f = refused-31 f (let e = c .before .room .ensures in omega arith)
 
--- src/lib.rt:288:5
 write-requires : tie.Need-write-requires
 write-requires c κs =
     let a = c .before .before .before .before .before .args in
@@ -36,7 +28,6 @@ write-requires c κs =
     let six : 6 ≤ a .to = behind-head _ _ (c .before .before .before .before .before .pre) (omega arith) in
     omega arith
 
--- src/lib.rt:289:5
 write-requires-2 : tie.Need-write-requires-2
 write-requires-2 c κs =
     let a = c .before .before .before .before .before .before .before .before .before .args in
@@ -46,11 +37,9 @@ write-requires-2 c κs =
     let l : length (c .before .before .before .write .last .0) ≡ length (a .out .now) = ap length (c .before .before .before .write .ensures) ∙ length-sets (a .out .now) 0 (bytes 4 (a .to)) in
     omega arith
 
--- src/lib.rt:281:1
 same-length-2 : tie.Need-same-length-2
 same-length-2 c = search needs
 
--- src/lib.rt:281:1
 returns-2 : tie.Need-returns-2
 returns-2 c before body f =
     let a = c .before .before .before .before .before .before .before .before .before .before .before .before .args in

@@ -8,51 +8,41 @@ use borrow.Author.Needs.{needs}
 use Rattle.lower.proofs.lower_function.Statement.{statement}
 use Rattle.lower.proofs.lower_function.Tie as tie
 
--- src/lib.rt:220:5
 element-write-starts : tie.Need-element-write-starts
 element-write-starts c = search needs
 
--- src/lib.rt:221:21
 add-read : tie.Need-add-read
 add-read c = search needs
 
--- src/lib.rt:221:9
 read-requires : tie.Need-read-requires
 read-requires c κs =
     let F = function-at (c .before .pre .1) in
     omega (arith, F .fits, F .inside)
 
--- src/lib.rt:222:33
 add-lower-params : tie.Need-add-lower-params
 add-lower-params c = search needs
 
--- src/lib.rt:222:55
 new-flow-requires : tie.Need-new-flow-requires
 new-flow-requires c κs = search needs
 
--- src/lib.rt:222:9
 lower-params-requires : tie.Need-lower-params-requires
 lower-params-requires c κs =
     let F = function-at (c .before .before .before .before .before .pre .1) in
     let e = c .before .before .before .read .ensures .0 in
     (omega (arith, F .fits, F .inside), (omega (arith, F .few), (c .before .before .new-flow .ensures .1 .0, c .before .before .before .before .before .pre .0 .short)))
 
--- src/lib.rt:226:20
 enum-known-step : tie.Need-enum-known-step
 enum-known-step c = search needs
 
--- src/lib.rt:227:48
 add-from : tie.Need-add-from
 add-from c =
     let z = c .before .before .before .before .before .before .before .before .before .before in
     let F = function-at (z .pre .1) in
     omega (arith, F .fits, F .inside, z .pre .0 .short)
 
--- src/lib.rt:227:58
 mul-from : tie.Need-mul-from
 mul-from c = search needs
 
--- src/lib.rt:227:48
 add-from-2 : tie.Need-add-from-2
 add-from-2 c =
     let z = c .before .before .before .before .before .before .before .before .before .before in
@@ -60,14 +50,12 @@ add-from-2 c =
     let e = c .before .before .before .before .before .before .before .before .read .ensures .0 in
     omega (arith, F .fits, F .inside, z .pre .0 .short)
 
--- src/lib.rt:227:70
 read-requires-2 : tie.Need-read-requires-2
 read-requires-2 c κs =
     let z = c .before .before .before .before .before .before .before .before .before .before in
     let F = function-at (z .pre .1) in
     omega (arith, F .fits, F .inside)
 
--- src/lib.rt:227:65
 add-stop : tie.Need-add-stop
 add-stop c =
     let z = c .before .before .before .before .before .before .before .before .before .before .before in
@@ -75,7 +63,6 @@ add-stop c =
     let e = c .read2 .ensures .0 in
     omega (arith, F .fits, F .inside, z .pre .0 .short)
 
--- src/lib.rt:227:17
 lower-stmts-requires : tie.Need-lower-stmts-requires
 lower-stmts-requires c κs =
     let r = c .before .before .before .before in
@@ -85,23 +72,18 @@ lower-stmts-requires c κs =
     let z = d .before .before in
     ((statements-at _ _ (function-at (z .pre .1)) (d .read .ensures .0) (r .read2 .ensures .0), z .pre .0), begun-sound (p .lower-params .result) _ (t .step .given .1) (p .lower-params .ensures .1))
 
--- src/lib.rt:229:28
 enum-known-walked : tie.Need-enum-known-walked
 enum-known-walked c = search needs
 
--- src/lib.rt:229:48
 return-if-open-requires : tie.Need-return-if-open-requires
 return-if-open-requires c κs = subst (StepGrown (c .before .before .before .before .before .before .before .before .before .before .before .before .step .given .0 .0)) (c .before .before .before .walked .given .1) (c .before .before .before .before .before .lower-stmts .ensures .1) .sound
 
--- src/lib.rt:230:31
 enum-known-walked-2 : tie.Need-enum-known-walked-2
 enum-known-walked-2 c = search needs
 
--- src/lib.rt:233:23
 enum-known-step-2 : tie.Need-enum-known-step-2
 enum-known-step-2 c = search needs
 
--- src/lib.rt:215:1
 returns : tie.Need-returns
 returns c =
     let w = c .before .before .before .before in
@@ -116,7 +98,6 @@ returns c =
     let a = z .args in
     (stmts-passed _ (function-at (z .pre .1)) (a .function .0) (a .starts .now) (a .stops .now) (a .log .now) (a .types .now) _ _ (n .new-flow .result) (d .read .result) (p .lower-params .result) (t .step .given .0 .0) (r .read2 .result) (m .0) (m .1 .0) (m .1 .1 .0) (m .1 .1 .1 .0) (l .lower-stmts .result) (d .read .ensures .0, n .new-flow .ensures .0 _ _ _ _ _, p .lower-params .ensures .0 _ _) (r .read2 .ensures .0, t .step .given .1, l .lower-stmts .ensures .0) (w .walked .given .0 .0) _ (w .walked .given .1) (c .return-if-open .ensures .0 _ _ _), c .return-if-open .ensures .1 .sound)
 
--- src/lib.rt:215:1
 returns-2 : tie.Need-returns-2
 returns-2 c =
     let w = c .before in
@@ -131,7 +112,6 @@ returns-2 c =
     let a = z .args in
     (stmts-refused _ (function-at (z .pre .1)) (a .function .0) (a .starts .now) (a .stops .now) (a .log .now) (a .types .now) _ _ (n .new-flow .result) (d .read .result) (p .lower-params .result) (t .step .given .0 .0) (r .read2 .result) (m .0) (m .1 .0) (m .1 .1 .0) (m .1 .1 .1 .0) (l .lower-stmts .result) (d .read .ensures .0, n .new-flow .ensures .0 _ _ _ _ _, p .lower-params .ensures .0 _ _) (r .read2 .ensures .0, t .step .given .1, l .lower-stmts .ensures .0) (w .walked2 .given .0 .0) (w .walked2 .given .1), tt)
 
--- src/lib.rt:215:1
 returns-3 : tie.Need-returns-3
 returns-3 c =
     let t = c .before in

@@ -6,25 +6,16 @@ use Rattle.sheet.specs.Forms.{formOf}
 use Rattle.lower.proofs.Answering.{too-long, malformed, over-limit, passed}
 use Rattle.lower.proofs.lower_sheet.Statement.{statement}
 use Rattle.lower.proofs.lower_sheet.Tie as tie
-use Rattle.lower.proofs.lower_sheet.Reads as reads
-use Rattle.lower.proofs.lower_sheet.Lts as lts
-use Rattle.lower.proofs.lower_contract.Reads as lower-contract-reads
-use Rattle.sheet.proofs.contract_form.Reads as contract-form-reads
-use Rattle.sheet.proofs.contract_limits.Reads as contract-limits-reads
 
--- src/lib.rt:314:9
 returns : tie.Need-returns
 returns c = too-long _ _ _ refl (c .if1 .taken)
 
--- src/lib.rt:316:9
 contract-form-requires : tie.Need-contract-form-requires
 contract-form-requires c κs = search needs
 
--- src/lib.rt:317:29
 enum-known-form : tie.Need-enum-known-form
 enum-known-form c = search needs
 
--- src/lib.rt:318:9
 returns-2 : tie.Need-returns-2
 unfolding formOf
 returns-2 c = malformed _ _ _ refl _ (omega (arith, c .before .before .before .before .if1 .left)) (sym (ap formOf (c .before .form .given .1)) ∙ c .before .before .before .contract-form .ensures)
@@ -32,16 +23,13 @@ returns-2 c = malformed _ _ _ refl _ (omega (arith, c .before .before .before .b
 enum-told : tie.Need-enum-told
 enum-told c = search needs
 
--- src/lib.rt:320:9
 contract-limits-requires : tie.Need-contract-limits-requires
 unfolding formOf
 contract-limits-requires c κs = sym (c .before .before .contract-form .ensures) ∙ ap formOf (c .enum-told .given .1)
 
--- src/lib.rt:321:29
 enum-known-limits : tie.Need-enum-known-limits
 enum-known-limits c = search needs
 
--- src/lib.rt:322:9
 returns-3 : tie.Need-returns-3
 unfolding formOf
 returns-3 c = over-limit _ _ _ refl _ (omega (arith, c .before .before .before .before .before .before .before .if1 .left)) (sym (ap formOf (c .before .before .before .before .enum-told .given .1)) ∙ c .before .before .before .before .before .before .contract-form .ensures) (sym (ap formOf (c .before .limits .given .1)) ∙ c .before .before .before .contract-limits .ensures)
@@ -49,16 +37,13 @@ returns-3 c = over-limit _ _ _ refl _ (omega (arith, c .before .before .before .
 enum-told-2 : tie.Need-enum-told-2
 enum-told-2 c = search needs
 
--- src/lib.rt:324:5
 lower-contract-requires : tie.Need-lower-contract-requires
 unfolding formOf
 lower-contract-requires c κs = record { short = omega (arith, c .before .before .before .before .before .before .before .if1 .left); form = sym (sym (ap formOf (c .before .before .before .before .enum-told .given .1)) ∙ c .before .before .before .before .before .before .contract-form .ensures); limits = sym (sym (ap formOf (c .before .enum-told2 .given .1)) ∙ c .before .before .before .contract-limits .ensures) }
 
--- src/lib.rt:310:1
 same-length : tie.Need-same-length
 same-length c = search needs
 
--- src/lib.rt:310:1
 returns-4 : tie.Need-returns-4
 unfolding formOf
 returns-4 c = passed _ _ _ _ (omega (arith, c .before .before .before .before .before .before .before .before .before .before .if1 .left)) (sym (ap formOf (c .before .before .before .before .before .before .before .enum-told .given .1)) ∙ c .before .before .before .before .before .before .before .before .before .contract-form .ensures) (sym (ap formOf (c .before .before .before .before .enum-told2 .given .1)) ∙ c .before .before .before .before .before .before .contract-limits .ensures) (c .before .before .lower-contract .ensures)

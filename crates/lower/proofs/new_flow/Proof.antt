@@ -4,10 +4,7 @@ use native.Mathlib.Omega.{arith}
 use Rattle.flow.specs.Flows.{localsOf}
 use Rattle.lower.proofs.new_flow.Statement.{statement}
 use Rattle.lower.proofs.new_flow.Tie as tie
-use Rattle.lower.proofs.new_flow.Reads as reads
-use Rattle.lower.proofs.new_flow.Lts as lts
 
--- src/lib.rt:200:1
 returns : tie.Need-returns
 unfolding localsOf
 returns c = (λ i log types starts stops. refl, (record { blocks = omega arith; locals = omega arith; current = omega arith }, refl))

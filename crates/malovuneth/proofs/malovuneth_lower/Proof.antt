@@ -1,9 +1,10 @@
--- `malovuneth::malovuneth_lower`: the numbers of what `lower` answers, and its output. Assumes nothing.
+-- `malovuneth::malovuneth_lower`: the numbers of what `lower` answers, its output, and demand 3. Assumes nothing.
 use mathlib.Core.Path.{ap, _∙_}
 use Prim.Native.Nat.{ℕ}
 use Rattle.definitions.specs.Result.{Result}
 use Rattle.definitions.specs.Answers.{Refusal, lengthNumbers, padded}
 use borrow.Author.Needs.{needs}
+use Rattle.malovuneth.proofs.Accepted.{accepted}
 use Rattle.malovuneth.proofs.malovuneth_lower.Statement.{statement}
 use Rattle.malovuneth.proofs.malovuneth_lower.Tie as tie
 
@@ -19,7 +20,13 @@ same-length c = search needs
 returns : tie.Need-returns
 returns c =
     let lowered = c .before .before .before .before .lower .ensures in
-    (c .before .lower-numbers .ensures .1 .0 ∙ ap (λ (r : Result Refusal ℕ). padded 6 (lengthNumbers r)) (lowered .0), lowered .1 .0)
+    let numbered = c .before .lower-numbers .ensures .1 .0 in (
+      numbered ∙ ap (λ (r : Result Refusal ℕ). padded 6 (lengthNumbers r)) (lowered .0),
+      (
+        lowered .1 .0,
+        λ e. lowered .1 .1 _ (accepted _ _ numbered e),
+      ),
+    )
 
 pub malovuneth-lower-spec : {M : Type 1} → statement M
 malovuneth-lower-spec =

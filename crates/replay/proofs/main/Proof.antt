@@ -9,6 +9,15 @@ Inv-loop turns₀ turns = Unit {0}
 abbrev μ-loop : tie.MeasureT-loop
 μ-loop turns₀ turns = turns
 
+slice-aggregate-has-args : tie.Need-slice-aggregate-has-args Inv-loop μ-loop
+slice-aggregate-has-args c = search needs
+
+has-args-requires : tie.Need-has-args-requires Inv-loop μ-loop
+has-args-requires c κs = search needs
+
+returns : tie.Need-returns Inv-loop μ-loop
+returns c = search needs
+
 loop-holds : tie.Need-loop-holds Inv-loop μ-loop
 loop-holds c = search needs
 
@@ -24,11 +33,11 @@ loop-less c = search needs
 loop-again : tie.Need-loop-again Inv-loop μ-loop
 loop-again c = search needs
 
-returns : tie.Need-returns Inv-loop μ-loop
-returns c = search needs
-
 returns-2 : tie.Need-returns-2 Inv-loop μ-loop
 returns-2 c = search needs
+
+returns-3 : tie.Need-returns-3 Inv-loop μ-loop
+returns-3 c = search needs
 
 pub main-spec : {M : Type 1} → statement M
 main-spec =
@@ -36,10 +45,13 @@ main-spec =
     (tie.spec
     Inv-loop
     μ-loop
+    slice-aggregate-has-args
+    has-args-requires
+    returns
     loop-holds
     replay-one-requires
     sub-turns
     loop-less
     loop-again
-    returns
-    returns-2)
+    returns-2
+    returns-3)

@@ -1,16 +1,14 @@
 -- `verify::define_block`: what is left of the block from q on, with the table so far. Assumes nothing.
 use mathlib.Core.Path.{_≡_, refl, ap, sym, _∙_, subst}
-use Prim.Native.Nat.{ℕ, _+_, _-_, _*_, _≤_, _<_, _^_}
+use Prim.Native.Nat.{ℕ, _+_, _-_}
 use native.Mathlib.Omega.{arith}
 use borrow.Author.Needs.{needs}
-use lib.ListN.{length}
 use mathlib.Core.List.{List, [], _++_}
-use Rattle.definitions.specs.Fields.{le}
-use Rattle.definitions.specs.Records.{readRecords, optFrom}
-use Rattle.definitions.specs.Verify.{Defined, defineResult, defineResults}
+use Rattle.definitions.specs.Records.{readRecords}
+use Rattle.definitions.specs.Verify.{Defined, defineResults}
 use Rattle.definitions.proofs.Sheets.Steps.{low}
 use Rattle.verify.specs.Answers.{checkedOf, named}
-use Rattle.verify.specs.Positions.{BlockFrom, instrsHere, instrHere, firstBlock}
+use Rattle.verify.specs.Positions.{BlockFrom, instrsHere}
 use Rattle.verify.specs.Entries.{Entry, blockEntries, entriesHere, Same}
 use Rattle.verify.proofs.Records.{placed}
 use Rattle.verify.proofs.Walk.{record-fits, instr-here, term-here}

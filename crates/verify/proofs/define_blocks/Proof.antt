@@ -1,19 +1,16 @@
 -- `verify::define_blocks`: what is left of the blocks from b on, with the table so far. Assumes nothing.
 use mathlib.Core.Path.{_≡_, refl, ap, sym, _∙_, subst}
-use Prim.Native.Nat.{ℕ, _+_, _-_, _*_, _≤_, _<_, _^_}
+use Prim.Native.Nat.{ℕ, _+_, _-_}
 use native.Mathlib.Omega.{arith}
 use borrow.Author.Needs.{needs}
-use lib.ListN.{length}
-use mathlib.Core.List.{List, [], _++_}
-use Rattle.definitions.specs.Fields.{le}
+use mathlib.Core.List.{[]}
 use Rattle.definitions.specs.Grammar.{Class, many, done}
-use Rattle.definitions.specs.Records.{readRecords}
 use Rattle.definitions.specs.Verify.{Defined, defineBlocks}
 use Rattle.definitions.proofs.Sheets.Passed.{Fine}
 use Rattle.definitions.proofs.Sheets.Steps.{low}
 use Rattle.verify.specs.Answers.{checkedOf, named}
-use Rattle.verify.specs.Positions.{blocksHere, paramsHere, firstBlock}
-use Rattle.verify.specs.Entries.{Entry, paramEntries, blockEntries, entriesHere, Same}
+use Rattle.verify.specs.Positions.{blocksHere, paramsHere}
+use Rattle.verify.specs.Entries.{paramEntries, entriesHere, Same}
 use Rattle.verify.proofs.Walk.{block-here}
 use Rattle.verify.proofs.Blocks.{InBlocks, no-blocks-left, block-is, block-failed, block-passed, blocks-end}
 use Rattle.verify.proofs.define_blocks.Statement.{statement}

@@ -1,11 +1,8 @@
 -- `verify::define_params`: what is left of the parameters, with the table so far. Assumes nothing.
-use mathlib.Core.Path.{_≡_, refl, ap, sym, _∙_, subst}
-use Prim.Native.Nat.{ℕ, _+_, _-_, _*_, _≤_, _<_, _^_}
+use mathlib.Core.Path.{_≡_, ap, sym, _∙_, subst}
+use Prim.Native.Nat.{ℕ, _+_}
 use native.Mathlib.Omega.{arith}
 use borrow.Author.Needs.{needs}
-use lib.ListN.{length}
-use Rattle.definitions.specs.Fields.{le}
-use Rattle.verify.specs.Positions.{firstBlock}
 use Rattle.verify.specs.Entries.{entriesHere, firstPlace}
 use Rattle.verify.proofs.Params.{Left, start, twice, next, over}
 use Rattle.verify.proofs.define_params.Statement.{statement}

@@ -1,15 +1,13 @@
 -- `verify::define_result`: no result, a result where none is given, a value that is defined before, a new one. Assumes nothing.
-use mathlib.Core.Path.{_≡_, refl, ap, sym, _∙_, subst}
-use Prim.Native.Nat.{ℕ, _+_, _-_, _*_, _≤_, _<_, _^_}
+use mathlib.Core.Path.{_≡_, ap, sym, _∙_}
+use Prim.Native.Nat.{ℕ, _+_}
 use native.Mathlib.Omega.{arith}
 use borrow.Author.Needs.{needs}
-use lib.ListN.{length}
 use Rattle.definitions.specs.Fields.{le}
-use Rattle.definitions.specs.Records.{optFrom}
-use Rattle.verify.specs.Positions.{firstBlock, instrHere}
+use Rattle.verify.specs.Positions.{instrHere}
 use Rattle.verify.specs.Entries.{entriesHere, firstPlace}
 use Rattle.verify.proofs.Walk.{head-fits}
-use Rattle.verify.proofs.Scan.{Ascends, fn-ascends, define-absent, define-nothing, define-twice, define-once}
+use Rattle.verify.proofs.Scan.{fn-ascends, define-absent, define-nothing, define-twice, define-once}
 use Rattle.verify.proofs.define_result.Statement.{statement}
 use Rattle.verify.proofs.define_result.Tie as tie
 

@@ -1,8 +1,7 @@
 -- `verify::defined_type`: nothing was found, a parameter, or an instruction. Assumes nothing.
-use mathlib.Core.Path.{_≡_, refl, ap, sym, _∙_, subst}
-use Prim.Native.Nat.{ℕ, _+_, _-_, _*_, _≤_, _<_, _^_}
+use mathlib.Core.Path.{_≡_, refl, _∙_, subst}
+use Prim.Native.Nat.{ℕ}
 use native.Mathlib.Omega.{arith}
-use borrow.Author.Needs.{needs}
 use Rattle.verify.proofs.Walk.{head-fits}
 use Rattle.verify.proofs.Entries.{not-found, a-param, an-instr}
 use Rattle.verify.proofs.defined_type.Statement.{statement}

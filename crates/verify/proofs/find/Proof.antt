@@ -1,15 +1,13 @@
 -- `verify::find`: the search goes on from the block at b. Assumes nothing.
-use mathlib.Core.Path.{_≡_, refl, ap, sym, _∙_, subst}
-use Prim.Native.Nat.{ℕ, _+_, _-_, _*_, _≤_, _<_, _^_}
+use mathlib.Core.Path.{_≡_, ap, sym, _∙_, subst}
+use Prim.Native.Nat.{ℕ, _+_, _-_, _<_}
 use native.Mathlib.Omega.{arith}
 use borrow.Author.Needs.{needs}
-use lib.ListN.{length}
-use Rattle.definitions.specs.Fields.{le}
 use Rattle.definitions.specs.Grammar.{Class, many, done}
 use Rattle.definitions.specs.Records.{readRecords}
 use Rattle.definitions.proofs.Sheets.Passed.{Fine}
 use Rattle.definitions.proofs.Sheets.Steps.{low}
-use Rattle.verify.specs.Positions.{paramsHere, firstBlock}
+use Rattle.verify.specs.Positions.{paramsHere}
 use Rattle.verify.specs.Entries.{paramEntries, blockEntries, blocksEntries, entriesHere, firstEntry, firstPlace}
 use Rattle.verify.proofs.Walk.{block-here}
 use Rattle.verify.proofs.Entries.{place-next, place-first, blocks-entries, no-blocks, above-params, fn-params, fn-block, absent-place}

@@ -1,10 +1,7 @@
 -- `verify::find_in_block`: the search goes on from the record at q. Assumes nothing.
 use mathlib.Core.Path.{_≡_, refl, ap, sym, _∙_, subst}
-use Prim.Native.Nat.{ℕ, _+_, _-_, _*_, _≤_, _<_, _^_}
+use Prim.Native.Nat.{ℕ, _+_, _-_}
 use native.Mathlib.Omega.{arith}
-use borrow.Author.Needs.{needs}
-use lib.ListN.{length}
-use Rattle.definitions.specs.Fields.{le}
 use Rattle.definitions.specs.Records.{readRecords}
 use Rattle.definitions.proofs.Sheets.Steps.{low}
 use Rattle.verify.specs.Positions.{BlockFrom}

@@ -1,12 +1,11 @@
 -- `verify::find_param`: what is left of the parameters is searched from p on. Assumes nothing.
-use mathlib.Core.Path.{_≡_, refl, ap, sym, _∙_, subst}
-use Prim.Native.Nat.{ℕ, _+_, _-_, _*_, _≤_, _<_, _^_}
+use mathlib.Core.Path.{_≡_, ap, sym, _∙_}
+use Prim.Native.Nat.{ℕ, _+_, _*_, _≤_}
 use native.Mathlib.Omega.{arith}
 use borrow.Author.Needs.{needs}
 use lib.ListN.{length}
-use Rattle.definitions.specs.Fields.{le}
 use Rattle.definitions.specs.Records.{readItems}
-use Rattle.verify.specs.Positions.{paramsHere, localsAt}
+use Rattle.verify.specs.Positions.{paramsHere}
 use Rattle.verify.specs.Entries.{paramEntries, firstEntry, firstPlace}
 use Rattle.verify.proofs.Entries.{paramsFrom, param-hit, param-miss}
 use Rattle.verify.proofs.find_param.Statement.{statement}

@@ -1,8 +1,6 @@
 -- `verify::result_type`: by the rule of the kind's row. Assumes nothing.
-use mathlib.Core.Path.{_≡_, refl, sym, _∙_}
-use Prim.Native.Nat.{ℕ, _+_, _≤_, _<_, _^_}
+use mathlib.Core.Path.{refl, sym, _∙_}
 use native.Mathlib.Omega.{arith}
-use borrow.Author.Needs.{needs}
 use Rattle.verify.proofs.ResultType.{own-low, own-high, own-fits, own, call-fits, call-void, call-typed, plain, no-rule}
 use Rattle.verify.proofs.result_type.Statement.{statement}
 use Rattle.verify.proofs.result_type.Tie as tie

@@ -1,12 +1,9 @@
 -- `verify::verify`: the length, the form, then the functions. Assumes nothing.
-use mathlib.Core.Path.{_≡_, refl, ap, sym, _∙_, subst}
-use Prim.Native.Nat.{ℕ, _+_, _-_, _*_, _≤_, _<_, _^_}
+use mathlib.Core.Path.{ap, sym, _∙_}
 use native.Mathlib.Omega.{arith}
 use borrow.Author.Needs.{needs}
-use lib.ListN.{length}
-use Rattle.definitions.specs.Records as records
 use Rattle.sheet.specs.Forms.{formOf}
-use Rattle.verify.specs.Answers.{answerOf, errorOf, checkedOf}
+use Rattle.verify.specs.Answers.{checkedOf}
 use Rattle.verify.proofs.Whole.{too-long, malformed, functions-there, accepted, refused}
 use Rattle.verify.proofs.verify.Statement.{statement}
 use Rattle.verify.proofs.verify.Tie as tie

@@ -1,14 +1,13 @@
 -- `verify::verify_block`: what is left of the block from q on decides. Assumes nothing.
-use mathlib.Core.Path.{_≡_, refl, ap, sym, _∙_, subst}
-use Prim.Native.Nat.{ℕ, _+_, _-_, _*_, _≤_, _<_, _^_}
+use mathlib.Core.Path.{_≡_, refl, ap, sym, _∙_}
+use Prim.Native.Nat.{ℕ, _+_, _-_}
 use native.Mathlib.Omega.{arith}
 use borrow.Author.Needs.{needs}
-use lib.ListN.{length}
 use Rattle.definitions.specs.Fields.{le}
 use Rattle.definitions.specs.Verify.{Defined, verifyBlock}
 use Rattle.definitions.proofs.Sheets.Steps.{low}
 use Rattle.verify.specs.Answers.{checkedOf, named}
-use Rattle.verify.specs.Positions.{BlockFrom, blockHere, functionHere, firstBlock, idsOfAll, localCount}
+use Rattle.verify.specs.Positions.{BlockFrom, blockHere, functionHere, idsOfAll, localCount}
 use Rattle.verify.specs.Entries.{entriesHere, Same}
 use Rattle.verify.proofs.Walk.{record-fits, instr-here, term-here}
 use Rattle.verify.proofs.Checks.{from-here, instr-failed, instr-passed, at-terminator, missing, instr-given, instr-is, term-given, term-is}

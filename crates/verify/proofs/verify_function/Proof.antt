@@ -1,13 +1,8 @@
 -- `verify::verify_function`: the three parts, one after the other. Assumes nothing.
-use mathlib.Core.Path.{_≡_, refl, ap, sym, _∙_, subst}
-use Prim.Native.Nat.{ℕ, _+_, _-_, _*_, _≤_, _<_, _^_}
-use native.Mathlib.Omega.{arith}
+use mathlib.Core.Path.{ap, sym, _∙_}
 use borrow.Author.Needs.{needs}
-use lib.ListN.{length}
-use mathlib.Core.List.{[]}
-use Rattle.definitions.specs.Fields.{le}
-use Rattle.verify.specs.Answers.{checkedOf, named}
-use Rattle.verify.specs.Positions.{localsAt, firstBlock, idsOfAll}
+use Rattle.verify.specs.Answers.{checkedOf}
+use Rattle.verify.specs.Positions.{idsOfAll}
 use Rattle.verify.proofs.Functions.{first-is, params-failed, blocks-failed, function-is}
 use Rattle.verify.proofs.verify_function.Statement.{statement}
 use Rattle.verify.proofs.verify_function.Tie as tie

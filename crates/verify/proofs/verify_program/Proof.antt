@@ -1,12 +1,10 @@
 -- `verify::verify_program`: what is left of the functions decides. Assumes nothing.
-use mathlib.Core.Path.{_≡_, refl, ap, sym, _∙_, subst}
-use Prim.Native.Nat.{ℕ, _+_, _-_, _*_, _≤_, _<_, _^_}
+use mathlib.Core.Path.{_≡_, refl, ap, sym, _∙_}
+use Prim.Native.Nat.{ℕ, _+_, _-_}
 use native.Mathlib.Omega.{arith}
 use borrow.Author.Needs.{needs}
 use lib.ListN.{length}
-use mathlib.Core.List.{[]}
-use Rattle.definitions.specs.Fields.{le}
-use Rattle.verify.specs.Answers.{checkedOf, named}
+use Rattle.verify.specs.Answers.{checkedOf}
 use Rattle.definitions.specs.Verify.{verifyFunctions}
 use Rattle.verify.specs.Positions.{functionsHere, idsOfAll, FunctionsFrom}
 use Rattle.verify.proofs.Walk.{head-there, function-here, no-functions}

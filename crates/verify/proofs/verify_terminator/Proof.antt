@@ -1,15 +1,12 @@
 -- `verify::verify_terminator`: by the kind. Assumes nothing.
-use mathlib.Core.Path.{_≡_, refl, ap, sym, _∙_, subst}
-use Prim.Native.Nat.{ℕ, _+_, _-_, _*_, _≤_, _<_, _^_}
+use mathlib.Core.Path.{refl, sym, subst}
+use Prim.Native.Nat.{ℕ, _+_}
 use native.Mathlib.Omega.{arith}
-use borrow.Author.Needs.{needs}
-use lib.ListN.{length}
-use Rattle.definitions.specs.Fields.{le}
-use Rattle.verify.specs.Answers.{checkedOf, named}
+use Rattle.verify.specs.Answers.{checkedOf}
 use Rattle.definitions.specs.Grammar.{Class, many, done}
 use Rattle.definitions.specs.Verify.{blockIds}
 use Rattle.definitions.proofs.Sheets.Passed.{Fine}
-use Rattle.verify.specs.Positions.{typeHere, firstBlock, blocksHere}
+use Rattle.verify.specs.Positions.{typeHere, blocksHere}
 use Rattle.verify.proofs.Instrs.{term-room, by-term, jump, branch, return, unreachable}
 use Rattle.verify.proofs.verify_terminator.Statement.{statement}
 use Rattle.verify.proofs.verify_terminator.Tie as tie

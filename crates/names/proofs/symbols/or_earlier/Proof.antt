@@ -1,7 +1,7 @@
 -- `names::symbols::or_earlier`: nothing gives way. Assumes nothing.
 use mathlib.Core.Path.{refl}
 use borrow.Author.Tests.{eq-eqb, ne-eqb}
-use Rattle.names.specs.Answers.{foundOf, orEarlier}
+use Rattle.names.specs.Answers.{foundOf}
 use Rattle.names.proofs.symbols.or_earlier.Statement.{statement}
 use Rattle.names.proofs.symbols.or_earlier.Tie as tie
 

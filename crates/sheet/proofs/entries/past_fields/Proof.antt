@@ -19,7 +19,7 @@ past-field-requires : tie.Need-past-field-requires Inv-loop μ-loop
 past-field-requires c κs = search needs
 
 returns : tie.Need-returns Inv-loop μ-loop
-returns c = (search (not-passed, needs), search needs)
+returns c = search (not-passed, needs)
 
 loop-less : tie.Need-loop-less Inv-loop μ-loop
 loop-less c = search needs
@@ -28,7 +28,7 @@ loop-again : tie.Need-loop-again Inv-loop μ-loop
 loop-again c = search (passed, needs)
 
 returns-2 : tie.Need-returns-2 Inv-loop μ-loop
-returns-2 c = (search (all-passed, needs), search needs)
+returns-2 c = search (all-passed, needs)
 
 pub past-fields-spec : {M : Type 1} → statement M
 past-fields-spec =

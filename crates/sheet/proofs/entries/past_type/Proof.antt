@@ -22,7 +22,7 @@ add-result c = search needs
 
 returns-2 : tie.Need-returns-2
 unfolding sizeOf okItem
-returns-2 c = single-good irType _ _ _ (c .before .before .if1 .left) (sym (c .before .type-valid .ensures) ∙ c .if2 .taken)
+returns-2 c = single-good irType _ _ _ (search needs) (c .before .before .if1 .left) (sym (c .before .type-valid .ensures) ∙ c .if2 .taken)
 
 returns-3 : tie.Need-returns-3
 unfolding sizeOf okItem

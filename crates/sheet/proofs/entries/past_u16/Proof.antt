@@ -22,7 +22,7 @@ add-result c = search needs
 
 returns-2 : tie.Need-returns-2
 unfolding sizeOf okItem
-returns-2 c = single-good (upTo _) _ _ _ (c .before .before .if1 .left) (le-leb _ _ (rw (c .before .read .ensures .0) at (c .if2 .taken)))
+returns-2 c = single-good (upTo _) _ _ _ (search needs) (c .before .before .if1 .left) (le-leb _ _ (rw (c .before .read .ensures .0) at (c .if2 .taken)))
 
 returns-3 : tie.Need-returns-3
 unfolding sizeOf okItem

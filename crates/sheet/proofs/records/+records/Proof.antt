@@ -63,8 +63,7 @@ module _ (t : ℕ) where
       let a = l .before .before .args in
       Entered (a .s .now) (a .at) (a .end) (a .pattern) (l .loop .place) (c .before .before .before .before .before .row-of .result) (c .before .before .before .before .after .result) (c .before .before .read .result) (c .before .past-fields .result)
   entered c =
-      let p = c .before .past-fields .ensures in
-      enters (c .before .before .before .before .before .before .before .before .loop .inv) (c .before .before .before .before .before .before .before .loop-test .taken) (started (c .before .before .before)) (c .before .before .read .ensures .0) (p .0) (c .if2 .left) (p .1 .1 (c .if2 .left)) (p .1 .0)
+      enters (c .before .before .before .before .before .before .before .before .loop .inv) (c .before .before .before .before .before .before .before .loop-test .taken) (started (c .before .before .before)) (c .before .before .read .ensures .0) _ (c .before .past-fields .ensures) (c .if2 .left)
 
   loop-holds : lts.Need-loop-holds (Calls t) (At t) records.Post Inv-loop μ-loop
   loop-holds c = record { low = omega arith; high = search needs; ok = search needs; same = refl }
@@ -94,7 +93,7 @@ module _ (t : ℕ) where
   past-fields-requires c κs = let d = started (c .before) in (omega arith, (omega (arith, c .read .ensures .0), (omega (arith, c .read .ensures .0), omega arith)))
 
   returns-2 : lts.Need-returns-2 (Calls t) (At t) records.Post Inv-loop μ-loop
-  returns-2 c = not-valid (c .before .before .before .before .before .before .before .before .loop .inv) (c .before .before .before .before .before .before .before .loop-test .taken) (started (c .before .before .before)) (c .before .before .read .ensures .0) (c .before .past-fields .ensures .0) (c .if2 .taken)
+  returns-2 c = not-valid (c .before .before .before .before .before .before .before .before .loop .inv) (c .before .before .before .before .before .before .before .loop-test .taken) (started (c .before .before .before)) (c .before .before .read .ensures .0) _ (c .before .past-fields .ensures) (c .if2 .taken)
 
   records-requires : lts.Need-records-requires (Calls t) (At t) records.Post Inv-loop μ-loop
   records-requires c κs = let d = entered (c .before) in (omega arith, (d .stop, (omega arith, d .children)))

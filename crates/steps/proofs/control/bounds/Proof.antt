@@ -1,4 +1,4 @@
--- `lower::control::bounds`: two locals. Assumes nothing.
+-- `steps::control::bounds`: two locals. Assumes nothing.
 use native.Mathlib.Omega.{arith}
 use Rattle.flow.specs.Flows.{madeIn}
 use Rattle.steps.proofs.FlowSteps.{told, local-told, grown-on}

@@ -1,4 +1,4 @@
--- `lower::control::enter_if`: the condition, the blocks and the branch, each as the walk has it. Assumes nothing.
+-- `steps::control::enter_if`: the condition, the blocks and the branch, each as the walk has it. Assumes nothing.
 use Prim.Native.Nat.{_+_, _≤_}
 use native.Mathlib.Omega.{arith}
 use Rattle.exprs.specs.Exprs.{valuedIn}

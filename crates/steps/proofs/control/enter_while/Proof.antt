@@ -1,4 +1,4 @@
--- `lower::control::enter_while`: the blocks, then the header. Assumes nothing.
+-- `steps::control::enter_while`: the blocks, then the header. Assumes nothing.
 use Prim.Native.Nat.{_+_, _≤_}
 use native.Mathlib.Omega.{arith}
 use Rattle.flow.specs.Flows.{madeIn, Grown}

@@ -1,4 +1,4 @@
--- `lower::control::for_blocks`: the blocks, the jump, the header and the open body. Assumes nothing.
+-- `steps::control::for_blocks`: the blocks, the jump, the header and the open body. Assumes nothing.
 use Prim.Native.Nat.{_+_, _≤_}
 use native.Mathlib.Omega.{arith}
 use Rattle.flow.specs.Flows.{madeIn, Grown}

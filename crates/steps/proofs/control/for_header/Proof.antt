@@ -1,4 +1,4 @@
--- `lower::control::for_header`: both reads, the test and the branch. Assumes nothing.
+-- `steps::control::for_header`: both reads, the test and the branch. Assumes nothing.
 use mathlib.Core.List.{[]}
 use mathlib.Core.Path.{_∙_}
 use Rattle.steps.proofs.FlowSteps.{counted-as, same-blocks, blocks-of, grown-on}

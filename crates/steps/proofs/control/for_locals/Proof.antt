@@ -1,4 +1,4 @@
--- `lower::control::for_locals`: both bounds, then their locals. Assumes nothing.
+-- `steps::control::for_locals`: both bounds, then their locals. Assumes nothing.
 use Prim.Native.Nat.{ℕ, _+_}
 use mathlib.Core.Path.{ap, _∙_}
 use Rattle.exprs.specs.Exprs.{valuedIn}

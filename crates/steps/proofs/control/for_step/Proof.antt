@@ -1,4 +1,4 @@
--- `lower::control::for_step`: the read, the sum, the write and the jump. Assumes nothing.
+-- `steps::control::for_step`: the read, the sum, the write and the jump. Assumes nothing.
 use mathlib.Core.List.{[]}
 use mathlib.Core.Path.{_∙_}
 use Rattle.steps.proofs.FlowSteps.{counted-as, same-blocks, blocks-of, grown-on}

@@ -1,4 +1,4 @@
--- `lower::control::leave_for`: the step, if the body is open, and the exit. Assumes nothing.
+-- `steps::control::leave_for`: the step, if the body is open, and the exit. Assumes nothing.
 use mathlib.Core.Path.{ap, _∙_}
 use Rattle.walk.specs.Stmts.{switchTo}
 use Rattle.steps.proofs.FlowSteps.{grown-on}

@@ -1,4 +1,4 @@
--- `lower::control::while_header`: the condition and the branch, each as the walk has it. Assumes nothing.
+-- `steps::control::while_header`: the condition and the branch, each as the walk has it. Assumes nothing.
 use native.Mathlib.Omega.{arith}
 use Rattle.exprs.specs.Exprs.{valuedIn}
 use Rattle.steps.proofs.FlowSteps.{told, grown-on}

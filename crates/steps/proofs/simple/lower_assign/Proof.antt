@@ -1,4 +1,4 @@
--- `lower::simple::lower_assign`: the expression, then the name. Assumes nothing.
+-- `steps::simple::lower_assign`: the expression, then the name. Assumes nothing.
 use mathlib.Core.Path.{_∙_}
 use native.Mathlib.Omega.{arith}
 use Rattle.nodes.proofs.Children.{bounds}

@@ -1,4 +1,4 @@
--- `lower::simple::lower_constrain`: the expression, then the record. Assumes nothing.
+-- `steps::simple::lower_constrain`: the expression, then the record. Assumes nothing.
 use Rattle.nodes.proofs.Children.{bounds}
 use Rattle.nodes.proofs.Stmts.{constrain-at}
 use Rattle.exprs.specs.Exprs.{valuedIn}

@@ -1,4 +1,4 @@
--- `lower::simple::lower_emit`: the arguments one by one, then the event. Assumes nothing.
+-- `steps::simple::lower_emit`: the arguments one by one, then the event. Assumes nothing.
 use Prim.Native.Nat.{_+_, _-_}
 use mathlib.Core.Path.{refl, _∙_}
 use native.Mathlib.Omega.{arith}

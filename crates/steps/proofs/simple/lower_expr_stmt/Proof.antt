@@ -1,4 +1,4 @@
--- `lower::simple::lower_expr_stmt`: the expression, with a value or with none. Assumes nothing.
+-- `steps::simple::lower_expr_stmt`: the expression, with a value or with none. Assumes nothing.
 use Rattle.nodes.proofs.Children.{bounds}
 use Rattle.nodes.proofs.Stmts.{expr-stmt-at}
 use Rattle.exprs.specs.Exprs.{loweredIn}

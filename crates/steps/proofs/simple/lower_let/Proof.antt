@@ -1,4 +1,4 @@
--- `lower::simple::lower_let`: the expression, then its local. Assumes nothing.
+-- `steps::simple::lower_let`: the expression, then its local. Assumes nothing.
 use mathlib.Core.Path.{_∙_}
 use native.Mathlib.Omega.{arith}
 use Rattle.nodes.proofs.Children.{bounds}

@@ -1,4 +1,4 @@
--- `lower::simple::lower_return`: with no value, or with an expression's. Assumes nothing.
+-- `steps::simple::lower_return`: with no value, or with an expression's. Assumes nothing.
 use native.Mathlib.Omega.{arith}
 use Rattle.nodes.proofs.Children.{bounds}
 use Rattle.nodes.proofs.Stmts.{return-at}

@@ -1,4 +1,4 @@
--- `lower::simple::lower_storage_write`: the name, then the expression, by which of the two are refused. Assumes nothing.
+-- `steps::simple::lower_storage_write`: the name, then the expression, by which of the two are refused. Assumes nothing.
 use mathlib.Core.Path.{ap, _∙_}
 use native.Mathlib.Omega.{arith}
 use Rattle.nodes.proofs.Children.{bounds}

@@ -1,6 +1,5 @@
 -- `verify::refs::check_condition`: the value is not defined, or no Bool, or both. Assumes nothing.
-use mathlib.Core.Path.{_≡_, refl, ap, sym, _∙_, subst}
-use Prim.Native.Nat.{ℕ, _+_, _-_, _*_, _≤_, _<_, _^_}
+use mathlib.Core.Path.{ap, _∙_}
 use native.Mathlib.Omega.{arith}
 use borrow.Author.Needs.{needs}
 use Rattle.definitions.specs.Ir.{IrType}
@@ -11,36 +10,29 @@ use Rattle.verify.proofs.Operands.{condition-undefined, condition-bad, 
 use Rattle.verify.proofs.refs.check_condition.Statement.{statement}
 use Rattle.verify.proofs.refs.check_condition.Tie as tie
 
--- src/refs.rt:179:33
 add-read-u16 : tie.Need-add-read-u16
 add-read-u16 c = search needs
 
--- src/refs.rt:179:9
 read-u16-requires : tie.Need-read-u16-requires
 read-u16-requires c κs = search needs
 
--- src/refs.rt:180:9
 defined-type-requires : tie.Need-defined-type-requires
 defined-type-requires c κs = search needs
 
--- src/refs.rt:182:9
 returns : tie.Need-returns
 returns c =
     let a = c .before .before .before .before .args in
     condition-undefined (a .s .now) (a .name) (a .q) (entriesHere (a .s .now) (a .at) (a .first) (a .stop)) _ _ (c .before .before .read-u16 .ensures) (c .before .defined-type .ensures .0) (c .if1 .taken)
 
--- src/refs.rt:185:13
 ir-type-requires : tie.Need-ir-type-requires
 ir-type-requires c κs = search needs
 
--- src/refs.rt:186:9
 returns-2 : tie.Need-returns-2
 returns-2 c =
     let a = c .before .before .before .before .before .before .args in
     λ ds S. ap (λ (x : IrType). err (a .name, VerifyError.BranchConditionNotBool (c .before .before .before .before .read-u16 .result) x)) (c .ir-type .ensures)
     ∙ condition-bad (a .s .now) (a .name) (a .q) (entriesHere (a .s .now) (a .at) (a .first) (a .stop)) _ _ (c .before .before .before .before .read-u16 .ensures) (c .before .before .before .defined-type .ensures .0) (c .before .before .if1 .left) (c .before .if2 .taken) (c .before .before .before .defined-type .ensures .1) ds S
 
--- src/refs.rt:175:1
 returns-3 : tie.Need-returns-3
 returns-3 c =
     let a = c .before .before .before .before .before .args in

@@ -1,9 +1,8 @@
 -- `verify::refs::verify_branch`: the condition decides, then the first block, then the second. Assumes nothing.
-use mathlib.Core.Path.{_≡_, refl, ap, sym, _∙_, subst}
-use Prim.Native.Nat.{ℕ, _+_, _-_, _*_, _≤_, _<_, _^_}
+use mathlib.Core.Path.{ap, sym, _∙_, subst}
+use Prim.Native.Nat.{ℕ}
 use native.Mathlib.Omega.{arith}
 use borrow.Author.Needs.{needs}
-use lib.ListN.{length}
 use Rattle.definitions.specs.Grammar.{Class, many, done}
 use Rattle.definitions.specs.Verify.{blockIds}
 use Rattle.definitions.proofs.Sheets.Passed.{Fine}
@@ -13,68 +12,54 @@ use Rattle.verify.proofs.Operands.{branch-condition, branch-first, bran
 use Rattle.verify.proofs.refs.verify_branch.Statement.{statement}
 use Rattle.verify.proofs.refs.verify_branch.Tie as tie
 
--- src/refs.rt:196:33
 add-read-u16 : tie.Need-add-read-u16
 add-read-u16 c = search needs
 
--- src/refs.rt:196:9
 read-u16-requires : tie.Need-read-u16-requires
 read-u16-requires c κs = search needs
 
--- src/refs.rt:197:33
 add-read-u16-2 : tie.Need-add-read-u16-2
 add-read-u16-2 c = search needs
 
--- src/refs.rt:197:9
 read-u16-requires-2 : tie.Need-read-u16-requires-2
 read-u16-requires-2 c κs = search needs
 
--- src/refs.rt:198:9
 check-condition-requires : tie.Need-check-condition-requires
 check-condition-requires c κs =
     (c .before .before .before .pre .0, (c .before .before .before .pre .1 .0, omega (arith, c .before .before .before .pre .1 .1)))
 
--- src/refs.rt:199:9
 check-block-requires : tie.Need-check-block-requires
 check-block-requires c κs =
     (subst (λ (x : ℕ). Fine (c .before .before .before .before .args .s .now) x (c .before .before .before .before .args .stop) (many Class.basicBlock done)) (sym (c .before .before .before .before .pre .1 .0)) (c .before .before .before .before .pre .0 .blocks), c .before .before .before .before .pre .0 .inside)
 
--- src/refs.rt:200:9
 check-block-requires-2 : tie.Need-check-block-requires-2
 check-block-requires-2 c κs =
     (subst (λ (x : ℕ). Fine (c .before .before .before .before .before .args .s .now) x (c .before .before .before .before .before .args .stop) (many Class.basicBlock done)) (sym (c .before .before .before .before .before .pre .1 .0)) (c .before .before .before .before .before .pre .0 .blocks), c .before .before .before .before .before .pre .0 .inside)
 
--- src/refs.rt:202:28
 enum-told : tie.Need-enum-told
 enum-told c = search needs
 
--- src/refs.rt:203:32
 enum-told-2 : tie.Need-enum-told-2
 enum-told-2 c = search needs
 
--- src/refs.rt:204:29
 enum-known-then-target : tie.Need-enum-known-then-target
 enum-known-then-target c = search needs
 
--- src/refs.rt:206:25
 enum-known-condition : tie.Need-enum-known-condition
 enum-known-condition c = search needs
 
--- src/refs.rt:192:1
 returns : tie.Need-returns
 returns c =
     let a = c .before .before .before .before .before .before .before .before .before .before .args in
     λ ds S. branch-second (a .s .now) (a .name) (a .at) (a .q) (blockIds (blocksHere (a .s .now) (a .first) (a .stop))) ds (sym (ap checkedOf (c .before .before .enum-told .given .1)) ∙ c .before .before .before .before .before .before .check-condition .ensures ds S) _ (c .before .before .before .before .before .before .before .before .read-u16 .ensures) _ (checkedOf (c .before .before .before .before .check-block2 .result)) (c .before .before .before .before .before .before .before .read-u162 .ensures)
     (sym (ap checkedOf (c .enum-told2 .given .1)) ∙ c .before .before .before .before .before .check-block .ensures) (c .before .before .before .before .check-block2 .ensures)
 
--- src/refs.rt:192:1
 returns-2 : tie.Need-returns-2
 returns-2 c =
     let a = c .before .before .before .before .before .before .before .before .before .before .before .args in
     λ ds S. branch-first (a .s .now) (a .name) (a .at) (a .q) (blockIds (blocksHere (a .s .now) (a .first) (a .stop))) ds (sym (ap checkedOf (c .before .before .before .enum-told .given .1)) ∙ c .before .before .before .before .before .before .before .check-condition .ensures ds S) _ (c .before .before .before .before .before .before .before .before .before .read-u16 .ensures)
     (sym (ap checkedOf (c .before .then-target .given .1)) ∙ c .before .before .before .before .before .before .check-block .ensures)
 
--- src/refs.rt:192:1
 returns-3 : tie.Need-returns-3
 returns-3 c =
     let a = c .before .before .before .before .before .before .before .before .before .args in

@@ -1,0 +1,122 @@
+#!/usr/bin/env python3
+"""Checks a change in copies of the crate: first against the rows alone, then against all of proofs/, then against the crates of the code."""
+import os
+import re
+import shutil
+import subprocess
+
+# The files of proofs/ that compute rows or refute statements, and what they need.
+ROW_FILES = ["Rows", "Readings", "RunRows", "ReadsRows", "Demand3Rows", "RulesOut", "Meaning"]
+NEEDED = ["All"]
+# Where a change of a file is likely to be met first; the other crates follow in the order of crates.txt.
+FIRST_MET = {
+    "Lower": ["walk"], "Sema": ["walk"], "Ast": ["walk"], "Verify": ["verify"], "Records": ["sheet"], "Grammar": ["sheet"], "Fields": ["fields", "reader"],
+    "ContractSheet": ["nodes", "walk"], "ProgramSheet": ["verify", "walk"], "Answers": ["answers"], "Lines": ["lines"], "Names": ["names"], "Ir": ["ir", "walk"], "InstrTable": ["ir", "walk"],
+}
+PLACE = re.compile(r"^(?:note: )?\S*?/(specs|proofs)/(\S+?)\.antt:(\d+):\d+: (.*)$")
+
+
+class Verdict:
+    """What became of a change: 'ill-typed', 'row', 'lemma', 'code' or 'proved'; and where it was refused first."""
+
+    def __init__(self, outcome, where=""):
+        self.outcome, self.where = outcome, where
+
+
+def errors(output):
+    """Folder, file, line and words of each error."""
+    found = []
+    for line in output.split("\n"):
+        m = PLACE.match(line)
+        if m and not re.match(r"(note|warning):", m.group(4)) and not line.startswith("note: "):
+            found.append((m.group(1), m.group(2), int(m.group(3)), m.group(4)))
+    return found
+
+
+class Copy:
+    """A copy of the crate `definitions`, with all of its proofs or with the rows alone, and an incremental folder of its own."""
+
+    def __init__(self, crate, folder, rows_only):
+        self.folder, self.kept = os.path.join(folder, "definitions"), os.path.join(folder, "kept")
+        shutil.copytree(crate, self.folder, ignore=shutil.ignore_patterns("must-fail"))
+        os.makedirs(self.kept)
+        if rows_only:
+            proofs = os.path.join(self.folder, "proofs")
+            for name in os.listdir(proofs):
+                path = os.path.join(proofs, name)
+                if os.path.isdir(path):
+                    shutil.rmtree(path)
+                elif name[:-5] not in ROW_FILES + NEEDED:
+                    os.remove(path)
+            with open(os.path.join(proofs, "Lib.antt"), "w") as f:
+                f.write("".join("pub mod %s\n" % m for m in NEEDED + ROW_FILES))
+
+    def check(self):
+        done = subprocess.run(["rt", "check", self.folder, "--incremental", self.kept], cwd="/", capture_output=True, text=True)
+        return done.returncode, done.stdout + done.stderr
+
+    def changed(self, change, text):
+        """The status and the output with the change made."""
+        path = os.path.join(self.folder, "specs", change.file + ".antt")
+        with open(path, "w", encoding="utf-8") as f:
+            f.write(change.apply(text))
+        try:
+            return self.check()
+        finally:
+            with open(path, "w", encoding="utf-8") as f:
+                f.write(text)
+
+    def name_of(self, error):
+        """An error's place; of a row, its name, which stands behind it as a comment."""
+        part, file, line, words = error
+        with open(os.path.join(self.folder, part, file + ".antt"), encoding="utf-8") as f:
+            source = f.read().split("\n")[line - 1]
+        name = re.search(r"-- (\S+)$", source)
+        return "%s: %s" % (file, name.group(1) if name else "line %d" % line)
+
+
+class Worker:
+    """Copies for one worker; `judge` says what becomes of a change."""
+
+    def __init__(self, repository, folder):
+        crate = os.path.join(repository, "crates", "definitions")
+        self.rows, self.whole = Copy(crate, os.path.join(folder, "rows"), True), Copy(crate, os.path.join(folder, "whole"), False)
+        self.repository, self.scratch = repository, os.path.join(folder, "repository")
+
+    def judge(self, change, text, cited):
+        status, output = self.rows.changed(change, text)
+        found = errors(output)
+        if status == 2:
+            raise RuntimeError("rt failed on %s:\n%s" % (change.key, output))
+        if status and any(e[0] == "specs" and (e[1] == change.file or e[1] not in ROW_FILES) for e in found):
+            return Verdict("ill-typed")
+        if status:
+            rows = [e for e in found if e[0] == "proofs"] or found
+            return Verdict("row", self.rows.name_of(rows[0]) if rows else "no verdict")
+        status, output = self.whole.changed(change, text)
+        if status:
+            found = errors(output)
+            return Verdict("lemma", self.whole.name_of(found[0]) if found else "no verdict")
+        return self.in_code(change, text) if cited else Verdict("proved")
+
+    def in_code(self, change, text):
+        """The crates of the code, one after the other, until one is refused."""
+        if not os.path.exists(self.scratch):
+            os.makedirs(self.scratch)
+            for part in ("crates", "crates.txt"):
+                source = os.path.join(self.repository, part)
+                (shutil.copytree if os.path.isdir(source) else shutil.copy)(source, os.path.join(self.scratch, part))
+        path = os.path.join(self.scratch, "crates", "definitions", "specs", change.file + ".antt")
+        with open(path, "w", encoding="utf-8") as f:
+            f.write(change.apply(text))
+        try:
+            names = [line.split(":")[0] for line in open(os.path.join(self.scratch, "crates.txt")) if ":" in line and not line.startswith("#")]
+            for name in FIRST_MET.get(change.file, []) + names:
+                done = subprocess.run(["rt", "check", name], cwd=self.scratch, capture_output=True, text=True)
+                if done.returncode:
+                    failed = re.search(r"FAILED: ?(\S+)", done.stdout)
+                    return Verdict("code", failed.group(1) if failed else name)
+        finally:
+            with open(path, "w", encoding="utf-8") as f:
+                f.write(text)
+        return Verdict("proved")
