@@ -2,6 +2,7 @@
 """Checks a change in copies of the crate: first against the rows alone, then against all of proofs/, then against the crates of the code."""
 import os
 import re
+import resource
 import shutil
 import subprocess
 
@@ -11,8 +12,10 @@ NEEDED = ["All"]
 # Where a change of a file is likely to be met first; the other crates follow in the order of crates.txt.
 FIRST_MET = {
     "Lower": ["walk"], "Sema": ["walk"], "Ast": ["walk"], "Verify": ["verify"], "Records": ["sheet"], "Grammar": ["sheet"], "Fields": ["fields", "reader"],
-    "ContractSheet": ["nodes", "walk"], "ProgramSheet": ["verify", "walk"], "Answers": ["answers"], "Lines": ["lines"], "Names": ["names"], "Ir": ["ir", "walk"], "InstrTable": ["ir", "walk"],
+    "ContractSheet": ["nodes", "walk"], "ProgramSheet": ["verify", "walk"], "Answers": ["verify", "lower"], "Lines": ["lines"], "Names": ["names"], "Ir": ["ir", "walk"], "InstrTable": ["ir", "walk"],
 }
+# A check that takes more seconds of a processor than this is stopped, and counts as refused: unchanged, the rows take 2 and a crate 60 at most.
+MOST_SECONDS = 300
 PLACE = re.compile(r"^(?:note: )?\S*?/(specs|proofs)/(\S+?)\.antt:(\d+):\d+: (.*)$")
 
 
@@ -21,6 +24,11 @@ class Verdict:
 
     def __init__(self, outcome, where=""):
         self.outcome, self.where = outcome, where
+
+
+def rt(*words, cwd="/"):
+    limit = lambda: resource.setrlimit(resource.RLIMIT_CPU, (MOST_SECONDS, MOST_SECONDS))
+    return subprocess.run(["rt", *words], cwd=cwd, capture_output=True, text=True, preexec_fn=limit)
 
 
 def errors(output):
@@ -52,7 +60,7 @@ class Copy:
                 f.write("".join("pub mod %s\n" % m for m in NEEDED + ROW_FILES))
 
     def check(self):
-        done = subprocess.run(["rt", "check", self.folder, "--incremental", self.kept], cwd="/", capture_output=True, text=True)
+        done = rt("check", self.folder, "--incremental", self.kept)
         return done.returncode, done.stdout + done.stderr
 
     def changed(self, change, text):
@@ -81,7 +89,9 @@ class Worker:
     def __init__(self, repository, folder):
         crate = os.path.join(repository, "crates", "definitions")
         self.rows, self.whole = Copy(crate, os.path.join(folder, "rows"), True), Copy(crate, os.path.join(folder, "whole"), False)
-        self.repository, self.scratch = repository, os.path.join(folder, "repository")
+        self.scratch = os.path.join(folder, "repository")
+        shutil.copytree(os.path.join(repository, "crates"), os.path.join(self.scratch, "crates"))
+        shutil.copy(os.path.join(repository, "crates.txt"), self.scratch)
 
     def judge(self, change, text, cited):
         status, output = self.rows.changed(change, text)
@@ -101,18 +111,13 @@ class Worker:
 
     def in_code(self, change, text):
         """The crates of the code, one after the other, until one is refused."""
-        if not os.path.exists(self.scratch):
-            os.makedirs(self.scratch)
-            for part in ("crates", "crates.txt"):
-                source = os.path.join(self.repository, part)
-                (shutil.copytree if os.path.isdir(source) else shutil.copy)(source, os.path.join(self.scratch, part))
         path = os.path.join(self.scratch, "crates", "definitions", "specs", change.file + ".antt")
         with open(path, "w", encoding="utf-8") as f:
             f.write(change.apply(text))
         try:
             names = [line.split(":")[0] for line in open(os.path.join(self.scratch, "crates.txt")) if ":" in line and not line.startswith("#")]
             for name in FIRST_MET.get(change.file, []) + names:
-                done = subprocess.run(["rt", "check", name], cwd=self.scratch, capture_output=True, text=True)
+                done = rt("check", name, cwd=self.scratch)
                 if done.returncode:
                     failed = re.search(r"FAILED: ?(\S+)", done.stdout)
                     return Verdict("code", failed.group(1) if failed else name)

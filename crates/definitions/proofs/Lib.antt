@@ -10,6 +10,7 @@ pub mod Demand3
 pub mod RulesOut
 pub mod RunRows
 pub mod ReadsRows
+pub mod RunClauses
 pub mod Demand3Rows
 pub mod Meaning
 pub mod InstrTable

@@ -17,7 +17,7 @@ use Rattle.definitions.specs.ProgramSheet.{writeProgram, readProgram, re
 use Rattle.definitions.specs.Answers.{Refusal, Answer, lowerSheet, verifySheet}
 use Rattle.definitions.specs.Run.{State, at, ended, lacks, enter, follow, stepEntry, step, steps, start, run}
 use Rattle.definitions.specs.Rows.{Row}
-use Rattle.definitions.specs.RunRows.{ForAll}
+use Rattle.definitions.specs.RunRows.{OfAny}
 use Rattle.definitions.specs.ReadsRows.{Equal}
 use Rattle.definitions.specs.Meaning.{goingOn, hasEnded, hasLacked, noFunction, Ran, Runs, runRows, RunRowsHold, LackingProgramLacks, wrongPair, WrongRowsRefused}
 use Rattle.definitions.proofs.All.{all-of}
@@ -76,8 +76,8 @@ wrong-rows-refused = record {
   verified = λ h. apart (λ (r : Row). absent (r .verified)) h refl refl;
   reading = λ h. apart refused (sym h) refl refl;
   run = λ h. apart lackedIn h refl refl;
-  state = λ h. apart (λ (f : ForAll). outcome (f 0 0 IrType.U64 [])) h refl refl;
-  steps = λ h. apart (λ (f : ForAll). outcome (f 0 0 IrType.U64 [])) h refl refl;
+  state = λ h. apart (λ (f : OfAny). outcome (f 0 0 IrType.U64 [])) h refl refl;
+  steps = λ h. apart (λ (f : OfAny). outcome (f 0 0 IrType.U64 [])) h refl refl;
   pair = pair-refused;
   first = λ h. pair-refused (head-of h);
   second = λ h. pair-refused (head-of (tail-of h));

@@ -20,6 +20,7 @@ pub mod Rows
 pub mod RulesOut
 pub mod RunRows
 pub mod ReadsRows
+pub mod RunClauses
 pub mod Demand3Rows
 pub mod Meaning
 pub mod Readings

@@ -45,12 +45,18 @@ pub record StateRow : Type 0 where
 abbrev pub functionOf : List BasicBlock → List (ℕ × IrType) → ℕ → ℕ → IrType → List IrType → IrFunction
 functionOf bs ps i n t ls = record { id = i; name = n; params = ps; retTy = t; blocks = bs; locals = ls }
 
--- what such functions come to, and that it is the same for all of them
-abbrev pub ForAll : Type 0
-ForAll = ℕ → ℕ → IrType → List IrType → State
+-- what such functions come to, and that they all come to one state
+abbrev pub OfAny : Type 0
+OfAny = ℕ → ℕ → IrType → List IrType → State
+
+abbrev pub ofAny : List BasicBlock → List (ℕ × IrType) → (IrFunction → State) → OfAny
+ofAny bs ps f i n t ls = f (functionOf bs ps i n t ls)
+
+abbrev pub always : State → OfAny
+always s i n t ls = s
 
 abbrev pub Reaches : StateRow → Type 0
-Reaches r = _≡_ {A = ForAll} (λ i n t ls. run (functionOf (r .blocks) (r .params) i n t ls) (r .words) (r .picks)) (λ i n t ls. r .state)
+Reaches r = ofAny (r .blocks) (r .params) (λ f. run f (r .words) (r .picks)) ≡ always (r .state)
 
 -- the parameters of the rows
 abbrev pub five : ℕ × IrType
@@ -428,7 +434,7 @@ pub record StepsRow : Type 0 where
   pub state : State
 
 abbrev pub Steps : StepsRow → Type 0
-Steps r = _≡_ {A = ForAll} (λ i n t ls. steps (functionOf (r .blocks) (r .params) i n t ls) (r .words) (r .picks) (r .from)) (λ i n t ls. r .state)
+Steps r = ofAny (r .blocks) (r .params) (λ f. steps f (r .words) (r .picks) (r .from)) ≡ always (r .state)
 
 abbrev readsAndMakes7 : List InstrNode
 readsAndMakes7 = does (Instruction.Assert 7) ∷ gives 7 seven ∷ []
