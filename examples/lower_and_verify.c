@@ -80,18 +80,17 @@ int main(int count, char **words) {
     return 2;
   }
 
-  malovuneth_lower(sheet, length, program, sizeof program, lowered);
   printf("lowering: ");
-  if (lowered[0] != MALOVUNETH_ACCEPTED) {
+  if (malovuneth_lower(sheet, length, program, sizeof program, lowered) !=
+      MALOVUNETH_ACCEPTED) {
     print_refusal(lowered);
     printf("verifying: not asked, there is no program\n");
     return 1;
   }
   printf("accepted, %zu bytes\n", lowered[1]);
 
-  malovuneth_verify(program, lowered[1], verified);
   printf("verifying: ");
-  if (verified[0] != MALOVUNETH_ACCEPTED) {
+  if (malovuneth_verify(program, lowered[1], verified) != MALOVUNETH_ACCEPTED) {
     print_refusal(verified);
     return 1;
   }

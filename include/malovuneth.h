@@ -1,15 +1,16 @@
 /* malovuneth.h: lowering contract sheets to program sheets, and verifying
- * program sheets. C99, or C++. Version 0.2.0.
+ * program sheets. C99, or C++. Version 0.3.0.
  *
  * Link with libmalovuneth.a, an archive for x86-64 Linux that
  * `rt staticlib malovuneth` writes to target/staticlib. Of other libraries it
  * needs memcpy and memset alone. It has further functions, for tests; they are
  * no part of this interface.
  *
- * Both functions take any bytes. They end on all of them, and their answers are
- * proved (docs/AUDIT.md). They keep nothing between calls, have no global data
- * and allocate nothing, so that any number of threads may call them at once, on
- * memory of their own; a sheet may be lent to several calls at once.
+ * malovuneth_lower and malovuneth_verify take any bytes. They end on all of
+ * them, and their answers are proved (docs/AUDIT.md). They keep nothing between
+ * calls, have no global data and allocate nothing, so that any number of threads
+ * may call them at once, on memory of their own; a sheet may be lent to several
+ * calls at once.
  *
  * What the caller sees to, for each call:
  * - a pointer and the length behind it name memory that is there until the
@@ -32,9 +33,11 @@
 #include <stdint.h>
 
 #define MALOVUNETH_VERSION_MAJOR 0
-#define MALOVUNETH_VERSION_MINOR 2
+#define MALOVUNETH_VERSION_MINOR 3
 #define MALOVUNETH_VERSION_PATCH 0
-#define MALOVUNETH_VERSION "0.2.0"
+#define MALOVUNETH_VERSION "0.3.0"
+/* major * 10000 + minor * 100 + patch, as malovuneth_version gives it. */
+#define MALOVUNETH_VERSION_NUMBER 300
 
 /* The most bytes of a sheet of either kind. An output of so many bytes holds
  * every program sheet; it may be longer or shorter. */
@@ -143,16 +146,21 @@ extern "C" {
 /* Lowers a contract sheet: `length` bytes at `sheet`, which are only read. All
  * `room` bytes at `out` are written: on acceptance the program sheet and then
  * zeros, on a refusal zeros. All six numbers are written: 0 and the program
- * sheet's length, or the refusal's number and its details; zeros behind them. */
-void malovuneth_lower(const uint8_t *sheet, size_t length, uint8_t *out,
-                      size_t room, size_t numbers[MALOVUNETH_NUMBERS]);
+ * sheet's length, or the refusal's number and its details; zeros behind them.
+ * Returns the first of them. */
+size_t malovuneth_lower(const uint8_t *sheet, size_t length, uint8_t *out,
+                        size_t room, size_t numbers[MALOVUNETH_NUMBERS]);
 
 /* Verifies a program sheet: `length` bytes at `sheet`, which are only read. A
  * sheet that was lowered is `out` up to the length that lowering gave, without
  * the zeros behind it. All six numbers are written: 0, or the refusal's number
- * and its details; zeros behind them. */
-void malovuneth_verify(const uint8_t *sheet, size_t length,
-                       size_t numbers[MALOVUNETH_NUMBERS]);
+ * and its details; zeros behind them. Returns the first of them. */
+size_t malovuneth_verify(const uint8_t *sheet, size_t length,
+                         size_t numbers[MALOVUNETH_NUMBERS]);
+
+/* The version of the archive that was linked: MALOVUNETH_VERSION_NUMBER, if it
+ * is this header's. */
+size_t malovuneth_version(void);
 
 #ifdef __cplusplus
 }

@@ -1,7 +1,19 @@
 #!/usr/bin/env bash
-# What a buyer links: the archive by include/malovuneth.h, with the C example, and the Rust bindings.
+# What a buyer links: the archive by include/malovuneth.h, with the C example, and the Rust bindings, with an allocator and without one; the version, the same wherever it is said.
 set -u
 cd "$(dirname "$0")/.." && . tests/part.sh || exit 2
+
+# says FILE TEXT: a line of FILE begins with TEXT, which has the header's version. tests/header.c holds the linked archive to the header.
+says() {
+  if awk -v text="$2" 'index($0, text) == 1 { found = 1 } END { exit !found }' "$1"; then pass; else fail "$1 does not say: $2"; fi
+}
+version=$(sed -nE 's/^#define MALOVUNETH_VERSION "([0-9.]+)"$/\1/p' include/malovuneth.h)
+says include/malovuneth.h " * program sheets. C99, or C++. Version $version."
+says bindings/rust/Cargo.toml "version = \"$version\""
+says bindings/rust/Cargo.lock "version = \"$version\""
+says README.md "This is version $version ("
+says docs/DECISIONS.md "- **The version is $version**"
+
 on_x86_64 'the C example and the bindings' || finish
 built=target/buyers
 mkdir -p "$built"
@@ -59,6 +71,12 @@ if with 'the Rust bindings' cargo cc; then
     cargo test --offline --locked --quiet --manifest-path bindings/rust/Cargo.toml >"$built/rust.log" 2>&1 &&
     grep -qE '^test result: ok\. [1-9]' "$built/rust.log"; then pass
   else fail "the Rust bindings' tests: see $built/rust.log"
+  fi
+  # without an allocator: all but `lower_to_vec`
+  if MALOVUNETH_LIB_DIR=$ARCHIVE CARGO_TARGET_DIR=$PWD/$built/rust RUSTFLAGS=-Dwarnings \
+    cargo test --lib --no-default-features --offline --locked --quiet --manifest-path bindings/rust/Cargo.toml >"$built/core.log" 2>&1 &&
+    grep -qE '^test result: ok\. [1-9]' "$built/core.log"; then pass
+  else fail "the Rust bindings without an allocator: see $built/core.log"
   fi
 fi
 finish

@@ -58,7 +58,10 @@ def grammar():
     """Grammar's rows: kind, class, fields, children, name."""
     text = spec("Grammar")
     short = dict(re.findall(r"^abbrev (\w+) : Field\n\w+ = (.*)$", text, re.M))
-    for line in re.findall(r"^ +kind (\d.*)$", text, re.M):
+    rows = re.sub(r"^ +instr (\d+) (.*) ∷", r" kind \1 Class.instruction \2 done ∷", text, flags=re.M)
+    rows = re.sub(r"^ +term (\d+) (.*?) ∷(| \[\])(?=  --)", r" kind \1 Class.terminator \2 done ∷\3", rows, flags=re.M)
+    same("the bytes between an instruction's kind and its own fields", 0, int(re.search(r"^originWidth = (\d+)$", text, re.M)[1]))
+    for line in re.findall(r"^ +kind (\d.*)$", rows, re.M):
         line, _, name = line.partition("  -- ")
         kind, sort, fields, children = re.fullmatch(r"(\d+) Class\.(\w+) (?:\[\]|\((.*?) ∷ \[\]\)) (.*?) ∷(?: \[\])?", line).groups()
         fields = [re.sub("[()]", "", short.get(f, f)) for f in (fields or "").split(" ∷ ") if f]

@@ -6,50 +6,58 @@ use crate::subject::Subject;
 /// How many numbers an answer has: its own and at most five details.
 const NUMBERS: usize = 6;
 
+type Numbers = [usize; NUMBERS];
+
 extern "C" {
-    fn malovuneth_verify(sheet: *const u8, length: usize, out: *mut [usize; NUMBERS]);
-    fn malovuneth_contract_check(sheet: *const u8, length: usize, out: *mut [usize; NUMBERS]);
-    fn malovuneth_contract_form(sheet: *const u8, length: usize, out: *mut [usize; NUMBERS]);
+    fn malovuneth_verify(sheet: *const u8, length: usize, out: *mut Numbers) -> usize;
+    fn malovuneth_contract_check(sheet: *const u8, length: usize, out: *mut Numbers) -> usize;
+    fn malovuneth_contract_form(sheet: *const u8, length: usize, out: *mut Numbers) -> usize;
     fn malovuneth_lower(
         sheet: *const u8,
         length: usize,
         out: *mut u8,
         room: usize,
-        numbers: *mut [usize; NUMBERS],
-    );
+        numbers: *mut Numbers,
+    ) -> usize;
+}
+
+/// The numbers, the first of which is returned too.
+fn returned(first: usize, numbers: Numbers) -> Numbers {
+    assert_eq!(first, numbers[0], "the number returned is not the first");
+    numbers
 }
 
 /// The numbers of the verifier's answer.
-pub fn verify(sheet: &[u8]) -> [usize; NUMBERS] {
+pub fn verify(sheet: &[u8]) -> Numbers {
     let mut out = [usize::MAX; NUMBERS];
     // SAFETY: the sheet and the numbers are lent for the call alone.
-    unsafe { malovuneth_verify(sheet.as_ptr(), sheet.len(), &mut out) };
-    out
+    let first = unsafe { malovuneth_verify(sheet.as_ptr(), sheet.len(), &mut out) };
+    returned(first, out)
 }
 
 /// The numbers of the answer to a contract sheet's length, form and limits.
-pub fn contract_check(sheet: &[u8]) -> [usize; NUMBERS] {
+pub fn contract_check(sheet: &[u8]) -> Numbers {
     let mut out = [usize::MAX; NUMBERS];
     // SAFETY: as above.
-    unsafe { malovuneth_contract_check(sheet.as_ptr(), sheet.len(), &mut out) };
-    out
+    let first = unsafe { malovuneth_contract_check(sheet.as_ptr(), sheet.len(), &mut out) };
+    returned(first, out)
 }
 
 /// The numbers of the answer to a contract sheet's form.
-pub fn contract_form(sheet: &[u8]) -> [usize; NUMBERS] {
+pub fn contract_form(sheet: &[u8]) -> Numbers {
     let mut out = [usize::MAX; NUMBERS];
     // SAFETY: as above.
-    unsafe { malovuneth_contract_form(sheet.as_ptr(), sheet.len(), &mut out) };
-    out
+    let first = unsafe { malovuneth_contract_form(sheet.as_ptr(), sheet.len(), &mut out) };
+    returned(first, out)
 }
 
 /// The numbers of lowering's answer, whose second one is on acceptance the
 /// length of the sheet that `out` then begins with.
-pub fn lower(sheet: &[u8], out: &mut [u8]) -> [usize; NUMBERS] {
+pub fn lower(sheet: &[u8], out: &mut [u8]) -> Numbers {
     let mut numbers = [usize::MAX; NUMBERS];
     // SAFETY: the sheet, the output and the numbers are lent for the call
     // alone, and do not overlap.
-    unsafe {
+    let first = unsafe {
         malovuneth_lower(
             sheet.as_ptr(),
             sheet.len(),
@@ -58,7 +66,7 @@ pub fn lower(sheet: &[u8], out: &mut [u8]) -> [usize; NUMBERS] {
             &mut numbers,
         )
     };
-    numbers
+    returned(first, numbers)
 }
 
 /// The operations of the archive.
@@ -96,7 +104,7 @@ fn details(number: usize) -> usize {
 
 /// The answer but for an accepted lowering. Surplus numbers must be 0; those
 /// that are not stay, and so differ.
-fn answer(numbers: [usize; NUMBERS]) -> Answer {
+fn answer(numbers: Numbers) -> Answer {
     let [number, rest @ ..] = numbers;
     let surplus = rest[details(number)..].iter().any(|&n| n != 0);
     if number == 0 && !surplus {

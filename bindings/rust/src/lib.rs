@@ -42,6 +42,11 @@
 //! the environment variable `MALOVUNETH_LIB_DIR` names, or from
 //! `target/staticlib` of the project, where `rt staticlib malovuneth` writes it.
 //!
+//! # Without the standard library
+//!
+//! The crate is `no_std`. [`lower_to_vec`] alone needs an allocator: it is there
+//! by the feature `alloc`, which is on unless `default-features = false`.
+//!
 //! # Stack and threads
 //!
 //! Lowering takes up to some 502 kB of stack, and verifying less than 1 kB:
@@ -54,9 +59,14 @@
 //! over the output's, is no answer of this version's archive, which is proved
 //! to give none: another archive was linked. The functions then panic, since
 //! no [`Refusal`] would be true, and the output may hold anything.
+//! [`linked_version`] says which version was linked.
 
+#![no_std]
 #![deny(missing_docs)]
 #![deny(unsafe_code)]
+
+#[cfg(feature = "alloc")]
+extern crate alloc;
 
 mod decode;
 #[allow(unsafe_code)]
@@ -68,6 +78,16 @@ pub use refusal::{BlockId, FunctionId, LocalId, Name, Refusal, Type, ValueId};
 /// The most bytes of a sheet of either kind: an output of so many bytes holds
 /// every program sheet.
 pub const MOST_BYTES: usize = 32_768;
+
+/// This crate's version: major * 10,000 + minor * 100 + patch.
+pub const VERSION: usize = 300;
+
+/// The version of the archive that was linked, counted as [`VERSION`] is. An
+/// archive of another patch version makes the same promises.
+#[must_use]
+pub fn linked_version() -> usize {
+    ffi::version()
+}
 
 /// Lowers a contract sheet into `out`, and gives the program sheet, which is
 /// the beginning of `out`.
@@ -98,8 +118,9 @@ pub fn lower<'out>(sheet: &[u8], out: &'out mut [u8]) -> Result<&'out [u8], Refu
 /// # Panics
 ///
 /// As [`lower`].
-pub fn lower_to_vec(sheet: &[u8]) -> Result<Vec<u8>, Refusal> {
-    let mut out = vec![0; MOST_BYTES];
+#[cfg(feature = "alloc")]
+pub fn lower_to_vec(sheet: &[u8]) -> Result<alloc::vec::Vec<u8>, Refusal> {
+    let mut out = alloc::vec![0; MOST_BYTES];
     let length = lower(sheet, &mut out)?.len();
     out.truncate(length);
     Ok(out)

@@ -2,8 +2,8 @@
 
 #![forbid(unsafe_code)]
 
-use std::error::Error;
-use std::fmt::{self, Display, Formatter};
+use core::error::Error;
+use core::fmt::{self, Display, Formatter};
 
 /// Structs of one number, which print as it.
 macro_rules! numbers {
@@ -63,8 +63,10 @@ impl Display for Type {
 /// Why a sheet was refused: a variant for each number, with its details in
 /// their order.
 ///
-/// Lowering gives 1, 3, 4, 10 to 20, 30 and 31, verifying 1 and 40 to 50.
+/// Lowering gives 1, 3, 4, 10 to 20, 30 and 31, verifying 1 and 40 to 50. Later
+/// versions have further numbers, and so further variants.
 #[derive(Debug, Clone, Copy, PartialEq, Eq, Hash)]
+#[non_exhaustive]
 pub enum Refusal {
     /// 1: sheet over 32,768 bytes.
     SheetTooLong,

@@ -2,6 +2,7 @@ pub mod All
 pub mod Rows
 pub mod Results
 pub mod Fields
+pub mod Traversal
 pub mod Runs
 pub mod Sheets
 pub mod Programs

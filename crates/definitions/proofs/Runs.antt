@@ -1,7 +1,6 @@
 pub mod Safe
 pub mod Blocks
 pub mod Invariant
-pub mod Expressions
-pub mod Statements
+pub mod Keeping
 pub mod Functions
 pub mod Verifies

@@ -81,6 +81,19 @@ eightBytes = single (number 8)
 abbrev fourBytes : Field
 fourBytes = single (number 4)
 
+-- what stands between the kind of an instruction or terminator and its own fields: nothing now, a number of no bytes
+abbrev pub originWidth : ℕ
+originWidth = 0
+
+abbrev pub origin : Field
+origin = single (number originWidth)
+
+abbrev instr : ℕ → List Field → Line
+instr k own = kind k Class.instruction (origin ∷ own) done
+
+abbrev term : ℕ → List Field → Line
+term k own = kind k Class.terminator (origin ∷ own) done
+
 unfoldable pub rows : List Line
 rows =
     -- contract sheet
@@ -117,30 +130,30 @@ rows =
     kind 52 Class.functionName (n ∷ id ∷ []) done ∷
     kind 53 Class.basicBlock (id ∷ []) (many Class.instruction (perhaps Class.terminator done)) ∷
     -- instructions
-    kind 60 Class.instruction (result ∷ type ∷ eightBytes ∷ []) done ∷  -- Const
-    kind 61 Class.instruction (result ∷ type ∷ id ∷ id ∷ []) done ∷  -- Add
-    kind 62 Class.instruction (result ∷ type ∷ id ∷ id ∷ []) done ∷  -- Sub
-    kind 63 Class.instruction (result ∷ type ∷ id ∷ id ∷ []) done ∷  -- Mul
-    kind 64 Class.instruction (result ∷ type ∷ id ∷ id ∷ []) done ∷  -- Div
-    kind 65 Class.instruction (result ∷ type ∷ id ∷ id ∷ []) done ∷  -- IrEq
-    kind 66 Class.instruction (result ∷ type ∷ id ∷ id ∷ []) done ∷  -- IrNe
-    kind 67 Class.instruction (result ∷ type ∷ id ∷ id ∷ []) done ∷  -- Lt
-    kind 68 Class.instruction (result ∷ type ∷ id ∷ id ∷ []) done ∷  -- Le
-    kind 69 Class.instruction (result ∷ type ∷ id ∷ id ∷ []) done ∷  -- Gt
-    kind 70 Class.instruction (result ∷ type ∷ id ∷ id ∷ []) done ∷  -- Ge
-    kind 71 Class.instruction (result ∷ type ∷ id ∷ eightBytes ∷ []) done ∷  -- Load
-    kind 72 Class.instruction (result ∷ id ∷ eightBytes ∷ id ∷ []) done ∷  -- Store
-    kind 73 Class.instruction (result ∷ type ∷ fourBytes ∷ []) done ∷  -- StateRead
-    kind 74 Class.instruction (result ∷ fourBytes ∷ id ∷ []) done ∷  -- StateWrite
-    kind 75 Class.instruction (result ∷ id ∷ type ∷ []) done ∷  -- ReadLocal
-    kind 76 Class.instruction (result ∷ id ∷ id ∷ []) done ∷  -- WriteLocal
-    kind 77 Class.instruction (result ∷ id ∷ type ∷ ids ∷ []) done ∷  -- Call
-    kind 78 Class.instruction (result ∷ id ∷ []) done ∷  -- Assert
-    kind 79 Class.instruction (result ∷ id ∷ id ∷ []) done ∷  -- Poseidon
-    kind 80 Class.instruction (result ∷ n ∷ ids ∷ []) done ∷  -- Emit
-    kind 81 Class.instruction (result ∷ context ∷ []) done ∷  -- ContextRead
+    instr 60 (result ∷ type ∷ eightBytes ∷ []) ∷  -- Const
+    instr 61 (result ∷ type ∷ id ∷ id ∷ []) ∷  -- Add
+    instr 62 (result ∷ type ∷ id ∷ id ∷ []) ∷  -- Sub
+    instr 63 (result ∷ type ∷ id ∷ id ∷ []) ∷  -- Mul
+    instr 64 (result ∷ type ∷ id ∷ id ∷ []) ∷  -- Div
+    instr 65 (result ∷ type ∷ id ∷ id ∷ []) ∷  -- IrEq
+    instr 66 (result ∷ type ∷ id ∷ id ∷ []) ∷  -- IrNe
+    instr 67 (result ∷ type ∷ id ∷ id ∷ []) ∷  -- Lt
+    instr 68 (result ∷ type ∷ id ∷ id ∷ []) ∷  -- Le
+    instr 69 (result ∷ type ∷ id ∷ id ∷ []) ∷  -- Gt
+    instr 70 (result ∷ type ∷ id ∷ id ∷ []) ∷  -- Ge
+    instr 71 (result ∷ type ∷ id ∷ eightBytes ∷ []) ∷  -- Load
+    instr 72 (result ∷ id ∷ eightBytes ∷ id ∷ []) ∷  -- Store
+    instr 73 (result ∷ type ∷ fourBytes ∷ []) ∷  -- StateRead
+    instr 74 (result ∷ fourBytes ∷ id ∷ []) ∷  -- StateWrite
+    instr 75 (result ∷ id ∷ type ∷ []) ∷  -- ReadLocal
+    instr 76 (result ∷ id ∷ id ∷ []) ∷  -- WriteLocal
+    instr 77 (result ∷ id ∷ type ∷ ids ∷ []) ∷  -- Call
+    instr 78 (result ∷ id ∷ []) ∷  -- Assert
+    instr 79 (result ∷ id ∷ id ∷ []) ∷  -- Poseidon
+    instr 80 (result ∷ n ∷ ids ∷ []) ∷  -- Emit
+    instr 81 (result ∷ context ∷ []) ∷  -- ContextRead
     -- terminators
-    kind 90 Class.terminator (id ∷ []) done ∷  -- Jump
-    kind 91 Class.terminator (id ∷ id ∷ id ∷ []) done ∷  -- Branch
-    kind 92 Class.terminator (result ∷ []) done ∷  -- Return
-    kind 93 Class.terminator [] done ∷ []  -- Unreachable
+    term 90 (id ∷ []) ∷  -- Jump
+    term 91 (id ∷ id ∷ id ∷ []) ∷  -- Branch
+    term 92 (result ∷ []) ∷  -- Return
+    term 93 [] ∷ []  -- Unreachable

@@ -11,6 +11,7 @@ pub mod Verify
 pub mod Run
 pub mod Grammar
 pub mod Records
+pub mod Fine
 pub mod ProgramSheet
 pub mod ContractSheet
 pub mod Answers

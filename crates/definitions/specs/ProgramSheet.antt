@@ -7,7 +7,7 @@ use lib.ListN.{length}
 use Rattle.definitions.specs.Ast.{BinOp}
 use Rattle.definitions.specs.Ir.{IrType, Instruction, Terminator, InstrNode, BasicBlock, IrFunction, IrProgram}
 use Rattle.definitions.specs.InstrTable.{kindOf}
-use Rattle.definitions.specs.Grammar.{Class, one, done}
+use Rattle.definitions.specs.Grammar.{Class, one, done, originWidth}
 use Rattle.definitions.specs.Records.{pick, Item, small, opt, word, ty, param, Value, item, group, rest, Tree, node, Trees, tnil, tcons, writeTree, readRecords, Form, checkRecords, numberOf, typeOf, itemsAt, numAt, typeAt, optAt, gather, treesOf, ReadsAll}
 
 -- WRITING. A record that is written has no place yet: 0 stands for it.
@@ -22,6 +22,13 @@ type t = item (ty t)
 
 abbrev ids : List ℕ → Value
 ids a = rest (map small a)
+
+-- a record of an instruction or terminator by its own fields: before them stands what `origin` of Grammar says
+abbrev pub noOrigin : Value
+noOrigin = item (word originWidth 0)
+
+abbrev owning : ℕ → List Value → Tree
+owning k own = unplaced k (noOrigin ∷ own) tnil
 
 -- an instruction's fields after its result, in the Rust's order, a list last
 abbrev pub valuesOf : Instruction → List Value
@@ -40,13 +47,13 @@ valuesOf (Instruction.Emit e a) = u16 e ∷ ids a ∷ []
 valuesOf (Instruction.ContextRead k) = u16 k ∷ []
 
 abbrev pub instrTree : InstrNode → Tree
-instrTree n = unplaced (kindOf (n .instr)) (item (opt (n .result)) ∷ valuesOf (n .instr)) tnil
+instrTree n = owning (kindOf (n .instr)) (item (opt (n .result)) ∷ valuesOf (n .instr))
 
 abbrev pub termTree : Terminator → Tree
-termTree (Terminator.Jump b) = unplaced 90 (u16 b ∷ []) tnil
-termTree (Terminator.Branch c a b) = unplaced 91 (u16 c ∷ u16 a ∷ u16 b ∷ []) tnil
-termTree (Terminator.Return v) = unplaced 92 (item (opt v) ∷ []) tnil
-termTree Terminator.Unreachable = unplaced 93 [] tnil
+termTree (Terminator.Jump b) = owning 90 (u16 b ∷ [])
+termTree (Terminator.Branch c a b) = owning 91 (u16 c ∷ u16 a ∷ u16 b ∷ [])
+termTree (Terminator.Return v) = owning 92 (item (opt v) ∷ [])
+termTree Terminator.Unreachable = owning 93 []
 
 abbrev pub optTermTree : Option Terminator → Trees
 optTermTree none = tnil
@@ -84,7 +91,12 @@ binaryOf k =
 abbrev numsAt : ℕ → List Value → List ℕ
 numsAt i vs = map numberOf (itemsAt i vs)
 
--- an instruction by its kind and fields, of which 0 is the result; 61 to 70 are the operators; the last is 81, ContextRead (`NothingOverlookedInPrograms`)
+-- the own fields of an instruction or terminator
+abbrev pub ownOf : List Value → List Value
+ownOf [] = []
+ownOf (first ∷ own) = own
+
+-- an instruction by its kind and own fields, of which 0 is the result; 61 to 70 are the operators; the last is 81, ContextRead (`NothingOverlookedInPrograms`)
 abbrev pub instrOf : ℕ → List Value → Instruction
 instrOf k v =
     pick (eqb k 60) (Instruction.Const (typeAt 1 v) (numAt 2 v))
@@ -102,15 +114,18 @@ instrOf k v =
     (Instruction.ContextRead (numAt 1 v)))))))))))))
 
 abbrev pub instrNodeOf : Tree → InstrNode
-instrNodeOf (node at k v ts) = record { result = optAt 0 v; instr = instrOf k v }
+instrNodeOf (node at k v ts) = record { result = optAt 0 (ownOf v); instr = instrOf k (ownOf v) }
 
--- a terminator; the last is 93, Unreachable (`NothingOverlookedInPrograms`)
-abbrev pub termOf : Tree → Terminator
-termOf (node at k v ts) =
+-- a terminator by its kind and own fields; the last is 93, Unreachable (`NothingOverlookedInPrograms`)
+abbrev pub terminatorOf : ℕ → List Value → Terminator
+terminatorOf k v =
     pick (eqb k 90) (Terminator.Jump (numAt 0 v))
     (pick (eqb k 91) (Terminator.Branch (numAt 0 v) (numAt 1 v) (numAt 2 v))
     (pick (eqb k 92) (Terminator.Return (optAt 0 v))
     Terminator.Unreachable))
+
+abbrev pub termOf : Tree → Terminator
+termOf (node at k v ts) = terminatorOf k (ownOf v)
 
 abbrev pub firstOf : {A : Type 0} → List A → Option A
 firstOf [] = none

@@ -1,1 +1,2 @@
 pub mod Table
+mod Codes

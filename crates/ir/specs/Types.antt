@@ -1,4 +1,8 @@
--- The code's types as the definitions' types. Assumes nothing: these are definitions.
+-- The code's types as the definitions' types, and as numbers. Assumes nothing: these are definitions.
+use Prim.Native.Nat.{ℕ, _+_, _*_, _^_, _<_}
+use mathlib.Core.Path.{_≡_}
+use Rattle.definitions.specs.Fields.{bytes}
+use Rattle.definitions.specs.Records.{writeType}
 use Rattle.definitions.specs.Ir as defs
 use Rattle.ir.specs.declared.IrType.{IrType}
 use Rattle.ir.specs.declared.IrType.the-variants.{U64, Bool, Field, Struct, Void}
@@ -9,3 +13,8 @@ asType Bool = defs.IrType.BoolT
 asType Field = defs.IrType.FieldT
 asType (Struct n) = defs.IrType.Struct (n .0)
 asType Void = defs.IrType.Void
+
+-- r is the number of the four bytes of a type: its tag, then its name
+abbrev pub Coded : IrType → ℕ → Type 0
+Coded t r =
+    (r ≡ defs.tagOf (asType t) + 65536 * defs.nameOf (asType t)) × (bytes 4 r ≡ writeType (asType t)) × (defs.tagOf (asType t) < 65536) × (defs.nameOf (asType t) < 65536)

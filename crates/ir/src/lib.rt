@@ -1,11 +1,12 @@
 // Names, ids, types and instruction kinds of the intermediate program (`ir/mod.rs`), as document 01 numbers them.
 ghost use mathlib.Core.Path.{_≡_};
 ghost use mathlib.Core.List.{[], _∷_};
-ghost use Prim.Native.Nat.{_≤_, _<_};
+ghost use Prim.Native.Nat.{_/_, _%_, _≤_, _<_};
 ghost use Rattle.definitions.specs.Names.{empty, u64, bool, field, void, poseidon, verifyMerkleProof, msgSender, msgNonce, blockNumber};
 ghost use Rattle.definitions.specs.Records.{typeFrom};
-ghost use Rattle.ir.specs.Types.{asType};
+ghost use Rattle.ir.specs.Types.{asType, Coded};
 ghost use Rattle.ir.specs.Kinds.{ruleNumber, effectNumber};
+use format::kinds::FIRST_INSTRUCTION;
 
 // A name. Equal numbers stand for equal strings.
 pub struct Name(pub u16);
@@ -75,20 +76,60 @@ pub enum IrType {
     Void,
 }
 
+// A type's code is the number of its four bytes: its tag, and PER_NAME times its name. Only a struct's type has a name.
+pub const PER_NAME: usize = 65536;
+
+pub const U64_CODE: usize = 0;
+
+pub const BOOL_CODE: usize = 1;
+
+pub const FIELD_CODE: usize = 2;
+
+pub const STRUCT_CODE: usize = 3;
+
+pub const VOID_CODE: usize = 4;
+
+// What stands in place of a code where there is no type.
+pub const NO_TYPE: usize = 65535;
+
 // The type of a tag and a name.
 pub fn type_of(tag: u16, name: u16) -> IrType
     ensures { λ r. ⌜ asType r ≡ typeFrom tag name ⌝ }
 {
-    match tag {
-        0 => IrType::U64,
-        1 => IrType::Bool,
-        2 => IrType::Field,
-        3 => IrType::Struct(Name(name)),
+    match tag as usize {
+        U64_CODE => IrType::U64,
+        BOOL_CODE => IrType::Bool,
+        FIELD_CODE => IrType::Field,
+        STRUCT_CODE => IrType::Struct(Name::new(name)),
         _ => IrType::Void,
     }
 }
 
-// What an instruction kind gives and does: one of the RESULT numbers, and one of the EFFECT numbers.
+// The code of a type.
+pub fn type_code(t: IrType) -> usize
+    ensures { λ r. ⌜ Coded t r ⌝ }
+{
+    match t {
+        IrType::U64 => U64_CODE,
+        IrType::Bool => BOOL_CODE,
+        IrType::Field => FIELD_CODE,
+        IrType::Struct(n) => STRUCT_CODE + PER_NAME * (n.0 as usize),
+        IrType::Void => VOID_CODE,
+    }
+}
+
+// The type of a code.
+pub fn type_of_code(code: usize) -> IrType
+    ensures { λ r. ⌜ asType r ≡ typeFrom (code % 65536) (code / 65536 % 65536) ⌝ }
+{
+    type_of(
+        (code % PER_NAME) as u16,
+        (code / PER_NAME % PER_NAME) as u16,
+    )
+}
+
+// What an instruction kind gives and does: one of the RESULT numbers, and one of the EFFECT numbers. Verifying reads the results;
+// the effects have no reader here. Document 01 asks for one table with both, and `kind_row` checks it over all of its rows at once.
 pub struct KindRow(pub u8, pub u8);
 
 // The type of a result: none, the instruction's own, its own unless that is Void, Bool, U64.
@@ -150,5 +191,5 @@ pub fn kind_row(kind: usize) -> KindRow
     requires { ⌜ (60 ≤ kind) × (kind < 82) ⌝ }
     ensures { λ r. ⌜ (r .0 ≡ ruleNumber kind) × (r .1 ≡ effectNumber kind) ⌝ }
 {
-    KIND_ROWS[kind - 60]
+    KIND_ROWS[kind - FIRST_INSTRUCTION]
 }

@@ -1,5 +1,5 @@
-mod Digits
 mod Spaced
+mod Zeros
 mod Hexed
 mod Lowered
 pub mod Cut

@@ -23,7 +23,8 @@ use Rattle.lower.specs.Whole.{answerOf}
 use Rattle.lower.specs.declared.Answer.{Answer}
 use Rattle.lower.specs.declared.Answer.the-variants as answer
 use Rattle.lower.proofs.Answer as declared
-use Rattle.lines.proofs.Spaced.{take-padded}
+use Rattle.lines.specs.Lined.{Lined}
+use Rattle.lines.proofs.Zeros.{take-padded}
 
 -- an accepted sheet has 32,768 bytes at most
 and-true : (a b : Bool) → (a && b) ≡ true → a ≡ true
@@ -70,10 +71,5 @@ refused-line-is (err x) r h e = ap (λ (o : Result Refusal ℕ). lineOf (lengthN
 abbrev pub Wrote : (n m : ℕ) (s out text : List ℕ) → ℕ → Type 0
 Wrote n m s out text r = (text ≡ padded n (loweredLine (lowerSheet s m))) × ((r ≡ length (loweredLine (lowerSheet s m))) × (((r ≤ length text) × (r ≡ length (take r text))) × (out ≡ outputOf (lowerSheet s m) m)))
 
-abbrev pub Holds : (n : ℕ) (line text : List ℕ) → ℕ → Type 0
-Holds n line text r = (text ≡ padded n line) × ((r ≡ length line) × ((r ≤ length text) × (r ≡ length (take r text))))
-
-pub wrote : (n m n′ m′ : ℕ) (s out text line : List ℕ) (r : ℕ) → n′ ≡ n → m′ ≡ m → line ≡ loweredLine (lowerSheet s m′) → out ≡ outputOf (lowerSheet s m′) m′ → Holds n′ line text r → Wrote n m s out text r
-wrote n m n′ m′ s out text line r p q e o h =
-    let g : Holds n′ (loweredLine (lowerSheet s m′)) text r = subst (λ (l : List ℕ). Holds n′ l text r) e h in
-    subst (λ (k : ℕ). Wrote n k s out text r) q (subst (λ (k : ℕ). Wrote k m′ s out text r) p (g .0, (g .1 .0, (g .1 .1, o))))
+pub wrote : (n m n′ m′ : ℕ) (s out text line : List ℕ) (r : ℕ) → n′ ≡ n → m′ ≡ m → line ≡ loweredLine (lowerSheet s m′) → out ≡ outputOf (lowerSheet s m′) m′ → Lined n′ line text r → Wrote n m s out text r
+wrote n m n′ m′ s out text line r p q e o h = let g = rw (p, e) at h in subst (λ (k : ℕ). Wrote n k s out text r) q (g .is, (g .size, (g .inside, o)))

@@ -1,72 +1,49 @@
 // An answer as the line that is printed.
 ghost use mathlib.Core.Path.{_≡_};
-ghost use mathlib.Core.List.{_++_};
 ghost use Prim.Native.Nat.{_+_, _*_, _≤_, _<_};
-ghost use lib.ListN.{length, take, drop};
+ghost use lib.ListN.{length, take};
 ghost use lib.Seq.{sets};
 ghost use Rattle.definitions.specs.Result.{ok};
 ghost use Rattle.definitions.specs.Answers.{checkContract, lowerSheet, numbersOf, outputOf, padded, verifySheet};
-ghost use Rattle.definitions.specs.Lines.{digitsWithin, hexDigit, hexed, lineOf, loweredLine};
-use fields::clear;
-use fields::copy;
+ghost use Rattle.definitions.specs.Lines.{hexDigit, hexed, lineOf, loweredLine};
+ghost use Rattle.lines.specs.Lined.{Begins, Lined};
+use digits::put_digits;
 use lower::Answer;
+use writer::clear;
 
-// The code of a digit.
-fn digit(d: usize) -> u8
-    requires { ⌜ d < 10 ⌝ }
-    ensures { λ r. ⌜ r ≡ 48 + d ⌝ }
-{
-    48 + d as u8
-}
+const SPACE: u8 = b' ';
 
-// Puts the last `most` digits of v at a place of `out`, and gives the place behind them. What stands from there on is left as it is.
-fn put_digits(out: &mut [u8; 128], at: usize, most: usize, v: usize) -> usize
-    requires { ⌜ (length (now out) ≡ 128) × (at + most ≤ 128) ⌝ }
-    ensures { λ r. ⌜ take r (now (out .exit)) ≡ take at (now (out .entry)) ++ digitsWithin most v ⌝ }
-    ensures { λ r. ⌜ drop r (now (out .exit)) ≡ drop r (now (out .entry)) ⌝ }
-    ensures { λ r. ⌜ (length (now (out .exit)) ≡ 128) × (at ≤ r) × (r ≤ at + most) ⌝ }
-{
-    if most == 0 {
-        return at;
-    }
-    if v < 10 {
-        out[at] = digit(v);
-        return at + 1;
-    }
-    let p = put_digits(out, at, most - 1, v / 10);
-    out[p] = digit(v % 10);
-    p + 1
-}
+const LINE_FEED: u8 = 10;
+
+const LETTER_O: u8 = b'O';
+
+const LETTER_K: u8 = b'K';
 
 // Puts the first `count` of the list into `out` as a line: in decimal, separated by single spaces, with a line feed. Gives the line's length.
-fn put_numbers(count: usize, list: [usize; 6], out: &mut [u8; 128]) -> usize
-    requires { ⌜ (0 < count) × (count ≤ 6) × (length list ≡ 6) × (length (now out) ≡ 128) ⌝ }
-    ensures { λ r. ⌜ take r (now (out .exit)) ≡ lineOf (take count list) ⌝ }
-    ensures { λ r. ⌜ drop r (now (out .exit)) ≡ drop r (now (out .entry)) ⌝ }
-    ensures { λ r. ⌜ (length (now (out .exit)) ≡ 128) × (r ≤ 128) ⌝ }
+fn put_numbers(count: usize, list: [usize; 6], out: &mut [u8]) -> usize
+    requires { ⌜ (0 < count) × (count ≤ 6) × (length list ≡ 6) × (128 ≤ length (now out)) ⌝ }
+    ensures { λ r. ⌜ Begins (lineOf (take count list)) (now (out .entry)) (now (out .exit)) r ⌝ }
 {
-    let mut at = put_digits(out, 0, 20, list[0]);
+    let mut at = put_digits(out, 0, digits::MOST, list[0]);
     let mut i = 1;
     while i < count {
-        out[at] = 32;
-        at = put_digits(out, at + 1, 20, list[i]);
+        out[at] = SPACE;
+        at = put_digits(out, at + 1, digits::MOST, list[i]);
         i += 1;
     }
-    out[at] = 10;
+    out[at] = LINE_FEED;
     at + 1
 }
 
-// Puts the line of the first `count` of the list into `out`, with zeros behind it, and gives its length. It is `OK` if there are none.
-pub fn line(count: usize, list: [usize; 6], out: &mut [u8; 128]) -> usize
-    ensures { λ r. ⌜ now (out .exit) ≡ padded 128 (lineOf (take count list)) ⌝ }
-    ensures { λ r. ⌜ r ≡ length (lineOf (take count list)) ⌝ }
-    ensures { λ r. ⌜ (r ≤ length (now (out .exit))) × (r ≡ length (take r (now (out .exit)))) ⌝ }
+// The same for any count: the line is `OK` if there are none.
+fn put_front(count: usize, list: [usize; 6], out: &mut [u8]) -> usize
+    requires { ⌜ 128 ≤ length (now out) ⌝ }
+    ensures { λ r. ⌜ Begins (lineOf (take count list)) (now (out .entry)) (now (out .exit)) r ⌝ }
 {
-    *out = [0; 128];
     if count == 0 {
-        out[0] = 79;
-        out[1] = 75;
-        out[2] = 10;
+        out[0] = LETTER_O;
+        out[1] = LETTER_K;
+        out[2] = LINE_FEED;
         return 3;
     }
     if 6 < count {
@@ -75,13 +52,32 @@ pub fn line(count: usize, list: [usize; 6], out: &mut [u8; 128]) -> usize
     put_numbers(count, list, out)
 }
 
+// The same, with zeros behind it.
+fn put_line(count: usize, list: [usize; 6], out: &mut [u8]) -> usize
+    requires { ⌜ 128 ≤ length (now out) ⌝ }
+    ensures { λ r. ⌜ Lined (length (now (out .entry))) (lineOf (take count list)) (now (out .exit)) r ⌝ }
+{
+    let end = put_front(count, list, out);
+    clear(out, end);
+    end
+}
+
+// Puts the line of the first `count` of the list into `out`, with zeros behind it, and gives its length. It is `OK` if there are none.
+pub fn line(count: usize, list: [usize; 6], out: &mut [u8; 128]) -> usize
+    ensures { λ r. ⌜ now (out .exit) ≡ padded 128 (lineOf (take count list)) ⌝ }
+    ensures { λ r. ⌜ r ≡ length (lineOf (take count list)) ⌝ }
+    ensures { λ r. ⌜ (r ≤ length (now (out .exit))) × (r ≡ length (take r (now (out .exit)))) ⌝ }
+{
+    put_line(count, list, out)
+}
+
 // Puts the line of the verifier's answer to a program sheet into `out`, with zeros behind it, and gives its length.
 pub fn verify_line(sheet: &[u8], out: &mut [u8; 128]) -> usize
     ensures { λ r. ⌜ now (out .exit) ≡ padded 128 (lineOf (numbersOf (verifySheet (now (sheet .entry))))) ⌝ }
     ensures { λ r. ⌜ r ≡ length (lineOf (numbersOf (verifySheet (now (sheet .entry))))) ⌝ }
     ensures { λ r. ⌜ (r ≤ length (now (out .exit))) × (r ≡ length (take r (now (out .exit)))) ⌝ }
 {
-    let n = answers::verify_numbers(verify::verify(sheet));
+    let n = verify_numbers::verify_numbers(verify::verify(sheet));
     let list = n.list;
     line(n.count, list, out)
 }
@@ -92,7 +88,7 @@ pub fn contract_line(sheet: &[u8], out: &mut [u8; 128]) -> usize
     ensures { λ r. ⌜ r ≡ length (lineOf (numbersOf (checkContract (now (sheet .entry))))) ⌝ }
     ensures { λ r. ⌜ (r ≤ length (now (out .exit))) × (r ≡ length (take r (now (out .exit)))) ⌝ }
 {
-    let n = answers::check_contract(sheet);
+    let n = lower_numbers::check_numbers(sheet::check_contract(sheet));
     let list = n.list;
     line(n.count, list, out)
 }
@@ -116,7 +112,7 @@ fn put_hex(from: &[u8], n: usize, text: &mut [u8], at: usize)
         let space = at + 3 * i;
         let high = space + 1;
         let low = space + 2;
-        text[space] = 32;
+        text[space] = SPACE;
         text[high] = hex_digit(b / 16);
         text[low] = hex_digit(b % 16);
         i += 1;
@@ -126,31 +122,15 @@ fn put_hex(from: &[u8], n: usize, text: &mut [u8], at: usize)
 // Puts the line of a sheet, the first n bytes of `from`, into `text`, with zeros behind it, and gives its length.
 fn accepted_line(from: &[u8], n: usize, text: &mut [u8]) -> usize
     requires { ⌜ (n ≤ length (now from)) × (3 + 3 * n ≤ length (now text)) ⌝ }
-    ensures { λ r. ⌜ now (text .exit) ≡ padded (length (now (text .entry))) (loweredLine (ok (take n (now (from .entry))))) ⌝ }
-    ensures { λ r. ⌜ r ≡ length (loweredLine (ok (take n (now (from .entry))))) ⌝ }
-    ensures { λ r. ⌜ (r ≤ length (now (text .exit))) × (r ≡ length (take r (now (text .exit)))) ⌝ }
+    ensures { λ r. ⌜ Lined (length (now (text .entry))) (loweredLine (ok (take n (now (from .entry))))) (now (text .exit)) r ⌝ }
 {
-    text[0] = 79;
-    text[1] = 75;
+    text[0] = LETTER_O;
+    text[1] = LETTER_K;
     put_hex(from, n, text, 2);
     let end = 2 + 3 * n;
-    text[end] = 10;
+    text[end] = LINE_FEED;
     clear(text, end + 1);
     end + 1
-}
-
-// Puts the line of the first `count` of the list into `text`, with zeros behind it, and gives its length.
-fn refused_line(count: usize, list: [usize; 6], text: &mut [u8]) -> usize
-    requires { ⌜ 128 ≤ length (now text) ⌝ }
-    ensures { λ r. ⌜ now (text .exit) ≡ padded (length (now (text .entry))) (lineOf (take count list)) ⌝ }
-    ensures { λ r. ⌜ r ≡ length (lineOf (take count list)) ⌝ }
-    ensures { λ r. ⌜ (r ≤ length (now (text .exit))) × (r ≡ length (take r (now (text .exit)))) ⌝ }
-{
-    let mut short = [0u8; 128];
-    let k = line(count, list, &mut short);
-    copy(&short, 0, k, text, 0);
-    clear(text, k);
-    k
 }
 
 // Lowers a contract sheet to `out` and puts the line of the answer into `text`, with zeros behind it. Gives the line's length.
@@ -164,7 +144,7 @@ pub fn lower_line(sheet: &[u8], out: &mut [u8; 32768], text: &mut [u8; 98307]) -
     if let Answer::Accepted(n) = answer {
         return accepted_line(out, n, text);
     }
-    let numbers = answers::lower_numbers(answer);
+    let numbers = lower_numbers::lower_numbers(answer);
     let list = numbers.list;
-    refused_line(numbers.count, list, text)
+    put_line(numbers.count, list, text)
 }

@@ -1,28 +1,30 @@
 -- From the parts to the answer: the program's record, the sheet's checks, the output with its zeros, and demand 3. Assumes nothing.
 use mathlib.Core.Path.{_≡_, refl, sym, ap, _∙_, subst}
 use mathlib.Core.List.{List, [], _∷_, _++_, append-assoc}
-use Prim.Native.Nat.{ℕ, zero, suc, _-_, _≤_, _<_}
+use Prim.Native.Nat.{ℕ, zero, suc, _-_, _≤_}
 use native.Mathlib.Omega.{arith}
-use borrow.Author.Tests.{le-leb, lt-leb}
-use lib.Dec.{leb}
 use lib.ListN.{length, take, replicate}
 use lib.Seq.{sets}
 use Rattle.definitions.specs.Fields.{Bytes}
 use Rattle.definitions.specs.Result.{Result, err, ok}
 use Rattle.definitions.specs.Ast.{Contract}
 use Rattle.definitions.specs.Ir.{IrFunction}
-use Rattle.definitions.specs.Lower.{LoweringError, lowerFunctions, lowerContract, functionNames}
-use Rattle.definitions.specs.Records.{Good, Bad, Tree, Trees, tnil, treesOf, writeRecord, writeTree, writeTrees, writeValues}
+use Rattle.definitions.specs.Lower.{lowerFunctions, lowerContract, functionNames}
+use Rattle.definitions.specs.Records.{Tree, Trees, tnil, treesOf, writeRecord, writeTree, writeTrees, writeValues}
 use Rattle.definitions.specs.ProgramSheet.{functionTree, functionNameTree, writeProgram}
-use Rattle.definitions.specs.ContractSheet.{refusal3, refusal4, readContract}
+use Rattle.definitions.specs.ContractSheet.{readContract}
 use Rattle.definitions.specs.Answers as answers
-use Rattle.definitions.specs.Answers.{Refusal, refusal, lowerRefusal, checkContract, lowerSheet, lengthOf, outputOf, padded}
+use Rattle.definitions.specs.Answers.{Refusal, checkContract, lowerSheet, lengthOf, outputOf, padded}
 use Rattle.definitions.specs.Demand3.{Demand3Of}
 use Rattle.definitions.proofs.Demand3.{demand3}
-use Rattle.lower.specs.Whole.{programAnswer, Answered, answerOf, lowerRest, writtenBy, Finished}
+use Rattle.lower_state.specs.declared.LoweringError.{LoweringError}
+use Rattle.lower_layout.specs.Laid.{Laid}
+use Rattle.lower.specs.Whole.{Filled, FunctionsPlaced, programAnswer, Answered, answerOf, lowerRest, writtenBy, Finished}
+use Rattle.lower.specs.declared.Placed.{Placed}
+use Rattle.lower.specs.declared.Placed.the-variants as placed
 use Rattle.lower.specs.declared.Answer.{Answer}
 use Rattle.lower.specs.declared.Answer.the-variants as answer
-use Rattle.lower.proofs.Fill.{then-zeros}
+use Rattle.lower.proofs.Fill.{filled-of, then-filled, then-zeros}
 
 -- THE PROGRAM'S RECORD
 trees-more : {A : Type 0} (f : A → Tree) (xs : List A) (ts : Trees) → writeTrees (treesOf f xs ts) ≡ writeTrees (treesOf f xs tnil) ++ writeTrees ts
@@ -37,36 +39,36 @@ program-is : (gs : List IrFunction) (names : List (ℕ × ℕ)) → writeProgram
 unfolding writeProgram writeTree writeValues
 program-is gs names = ap (writeRecord 50) (trees-more functionTree gs (treesOf functionNameTree names tnil))
 
-module _ (K : Contract) (n : ℕ) where
-  rest-is : (gs : List IrFunction) → lowerFunctions K 0 (K .functions) ≡ ok gs → lowerRest K n ≡ programAnswer (bodyOf gs (functionNames 0 (K .functions) [])) n
-  unfolding lowerRest lowerContract
-  rest-is gs e = rw (e, program-is gs (functionNames 0 (K .functions) []))
+module _ (K : Contract) where
+  -- the functions and the names are laid down
+  pub record Body (before after : List ℕ) (r : ℕ) : Type 0 where
+    pub gs : List IrFunction
+    pub lowered : lowerFunctions K 0 (K .functions) ≡ ok gs
+    pub filled : Filled (bodyOf gs (functionNames 0 (K .functions) [])) before 6 after r
 
-  pub placed : (gs : List IrFunction) (out : List ℕ) (r : Answer) → lowerFunctions K 0 (K .functions) ≡ ok gs → Finished (bodyOf gs (functionNames 0 (K .functions) [])) n out r → Answered (lowerRest K n) n out r
-  placed gs out r e f = subst (λ (a : answers.Answer). Answered a n out r) (sym (rest-is gs e)) f
+  pub with-names : (before mid : List ℕ) {after : List ℕ} {p : Placed} {to r : ℕ} → FunctionsPlaced K before mid p → p ≡ placed.To to → Laid (writeTrees (treesOf functionNameTree (functionNames 0 (K .functions) []) tnil)) mid to after r → Body before after r
+  with-names before mid h q l = let F = subst (FunctionsPlaced K before mid) q h in record { gs = F .0; lowered = F .1 .0; filled = then-filled (F .1 .1) (filled-of l) }
 
-  pub refused : (x : LoweringError) (out : List ℕ) (r : Answer) → lowerFunctions K 0 (K .functions) ≡ err x → length out ≡ n → answerOf r ≡ err (lowerRefusal x) → Answered (lowerRest K n) n out r
+  rest-is : (n : ℕ) (gs : List IrFunction) → lowerFunctions K 0 (K .functions) ≡ ok gs → lowerRest K n ≡ programAnswer (bodyOf gs (functionNames 0 (K .functions) [])) n
   unfolding lowerRest lowerContract
-  refused x out r e l i = record { is = rw e i; same-length = l; holds = rw e tt }
+  rest-is n gs e = rw (e, program-is gs (functionNames 0 (K .functions) []))
+
+  pub finished : {before after out : List ℕ} {to : ℕ} {r : Answer} → Body before after to → ((before body : List ℕ) → Filled body before 6 after to → Finished body (length before) out r) → Answered (lowerRest K (length before)) (length before) out r
+  finished {before} {out = out} {r = r} B f = subst (λ (a : answers.Answer). Answered a (length before) out r) (sym (rest-is (length before) (B .gs) (B .lowered))) (f before _ (B .filled))
+
+  pub refused : (before after : List ℕ) {p : Placed} {x : LoweringError} → FunctionsPlaced K before after p → p ≡ placed.Refused x → Answered (lowerRest K (length before)) (length before) after (answer.Refused x)
+  unfolding lowerRest lowerContract
+  refused before after h q = let F = subst (FunctionsPlaced K before after) q h in record { is = rw (F .0) refl; same-length = F .1; holds = rw (F .0) tt }
 
 -- THE CHECKS
 module _ (s : List ℕ) (n : ℕ) (out : List ℕ) (same : length out ≡ n) where
-  stops : (x : Refusal) (r : Answer) → checkContract s ≡ err x → answerOf r ≡ err x → Answered (lowerSheet s n) n out r
+  pub stopped : (x : Refusal) (r : Answer) → checkContract s ≡ err x → answerOf r ≡ err x → Answered (lowerSheet s n) n out r
   unfolding lowerSheet
-  stops x r e i = record { is = rw e i; same-length = same; holds = rw e tt }
+  stopped x r e i = record { is = rw e i; same-length = same; holds = rw e tt }
 
-  pub too-long : 32768 < length s → Answered (lowerSheet s n) n out answer.TooLong
-  too-long h = stops (refusal 1 []) answer.TooLong (rw (lt-leb (length s) 32768 h)) refl
-
-  pub malformed : (p : ℕ) → length s ≤ 32768 → Bad p ≡ refusal3 s → Answered (lowerSheet s n) n out (answer.Malformed p)
-  malformed p h e = stops (refusal 3 (p ∷ [])) (answer.Malformed p) (rw (le-leb (length s) 32768 h, ← e)) refl
-
-  pub over-limit : (p : ℕ) → length s ≤ 32768 → Good ≡ refusal3 s → Bad p ≡ refusal4 s → Answered (lowerSheet s n) n out (answer.OverLimit p)
-  over-limit p h e f = stops (refusal 4 (p ∷ [])) (answer.OverLimit p) (rw (le-leb (length s) 32768 h, ← e, ← f)) refl
-
-pub passed : (s : List ℕ) (n : ℕ) (out : List ℕ) (r : Answer) → length s ≤ 32768 → Good ≡ refusal3 s → Good ≡ refusal4 s → Answered (lowerRest (readContract s) n) n out r → Answered (lowerSheet s n) n out r
+pub passed : (s : List ℕ) (n : ℕ) (out : List ℕ) (r : Answer) → checkContract s ≡ ok tt → Answered (lowerRest (readContract s) n) n out r → Answered (lowerSheet s n) n out r
 unfolding lowerSheet lowerRest
-passed s n out r h e f a = subst (λ (b : answers.Answer). Answered b n out r) (sym (rw (le-leb (length s) 32768 h, ← e, ← f))) a
+passed s n out r e a = subst (λ (b : answers.Answer). Answered b n out r) (sym (rw e)) a
 
 -- THE OUTPUT
 pub record Left (a : answers.Answer) (n : ℕ) (out : List ℕ) (r : Answer) : Type 0 where

@@ -4,137 +4,155 @@ use mathlib.Core.List.{List, [], _∷_}
 use mathlib.Core.Option.{none}
 use Prim.Native.Nat.{ℕ, suc, _+_, _-_, _*_, _%_, _≤_, _<_}
 use native.Mathlib.Omega.{arith}
-use lib.ListN.{set}
 use Rattle.definitions.specs.Fields.{le}
-use Rattle.definitions.specs.Result.{err, ok, _>>=_}
-use Rattle.definitions.specs.Ast.{Function, Contract}
+use Rattle.definitions.specs.Result.{ok, _>>=_}
+use Rattle.definitions.specs.ContractSheet.{readContract}
 use Rattle.definitions.specs.Grammar.{Class}
 use Rattle.definitions.specs.Ir.{Terminator}
-use Rattle.definitions.specs.Lower.{LoweringError as Refusal, Lowering, Scope, parseIrType}
-use Rattle.ir.specs.declared.IrType.{IrType}
+use Rattle.definitions.specs.Lower.{Lowering, parseIrType}
 use Rattle.ir.specs.Types.{asType}
-use Rattle.nodes.specs.Ready.{paramsFrom, functionAt, stmtsFrom, ReadyAll}
-use Rattle.nodes.proofs.Tops.{FunctionAt}
-use Rattle.walk.specs.Log.{logOf, counted}
-use Rattle.walk.specs.Stmts.{Ctx, withLog, initLocal, terminateIfOpen, walkStmts}
-use Rattle.walk.specs.Layout.{newCtx, walkParams, walkFunction}
-use Rattle.names.specs.Entries.{entryOf, entriesOf}
-use Rattle.names.specs.Answers.{errorOf}
-use Rattle.flow.specs.Flows.{ctxIn, stepIn, madeIn, Sound, Grown, LocalMade}
-use Rattle.lower.specs.Whole.{begunIn, BegunSound, newFlow}
-use Rattle.flow.specs.declared.Flow.{Flow}
-use Rattle.names.specs.declared.Scopes.{Scopes}
-use Rattle.names.specs.declared.LoweringError.{LoweringError}
+use Rattle.ir.specs.declared.IrType.{IrType}
+use Rattle.ir.specs.declared.FunctionId.{FunctionId}
+use Rattle.ir.specs.declared.LocalId.{LocalId}
+use Rattle.lower_counters.specs.Count.{countedValue}
+use Rattle.lower_counters.specs.declared.CountedValue.{CountedValue}
+use Rattle.contract_nodes.specs.Ready.{paramsFrom, functionAt, ReadyAll}
+use Rattle.contract_nodes.proofs.Tops.{FunctionAt}
+use Rattle.lower_walk.specs.Log.{counted}
+use Rattle.lower_walk.specs.Held.{Held}
+use Rattle.lower_walk.specs.Stmts.{LogCtx, withLog, initLocal, switchTo, terminateIfOpen, walkStmts}
+use Rattle.lower_walk.specs.Layout as walk
+use Rattle.lower_walk.specs.Layout.{walkParams, walkFunction}
+use Rattle.lower_names.specs.HeldNames.{heldName, heldIn}
+use Rattle.lower_names.specs.declared.Scopes.{Scopes}
+use Rattle.lower_state.specs.State.{newCtx, withCounters, localsOf, startsOf, stopsOf, ctxIn, Sound}
+use Rattle.lower_state.specs.declared.FnCtx.{FnCtx}
+use Rattle.lower_state.specs.declared.LoweringError.{LoweringError}
+use Rattle.lower_flow.specs.Flows.{stepIn, localIn, Changes, MakesLocal}
+use Rattle.lower_flow.specs.declared.Step.{Step}
+use Rattle.lower_flow.specs.declared.Step.the-variants as step
+use Rattle.lower_flow.specs.declared.MadeLocal.{MadeLocal}
+use Rattle.lower_flow.specs.declared.MadeLocal.the-variants as local
+use Rattle.lower_flow.proofs.FlowSteps.{local-told}
+use Rattle.lower_flow.specs.Done.{StmtsDone}
+use Rattle.lower.specs.Whole.{begunIn, Begins, FunctionWalked}
 use Rattle.lower.specs.declared.Begun.{Begun}
-use Rattle.flow.specs.declared.Step.{Step}
-use Rattle.flow.specs.declared.Step.the-variants as step
-use Rattle.flow.specs.declared.Made.{Made}
-use Rattle.flow.specs.declared.Made.the-variants as made
 
 -- PARAMETERS: one, and those after it
-one-more : (s : List ℕ) (a n : ℕ) (es : Scope) (c : Ctx)
-    → walkParams (paramsFrom s a (suc n)) es c ≡ (initLocal (parseIrType (le 2 s (a + 2))) (c .log .value) (withLog (counted (suc (c .log .value) % 65536) (c .log)) c) >>= λ (p : Ctx × ℕ). walkParams (paramsFrom s (a + 4) n) ((le 2 s a, p .1, parseIrType (le 2 s (a + 2))) ∷ es) (p .0))
+one-more : (s : List ℕ) (a n : ℕ) (es : Held) (c : LogCtx)
+    → walkParams (paramsFrom s a (suc n)) es c ≡ (initLocal (parseIrType (le 2 s (a + 2))) (c .log .value) (withLog (counted (suc (c .log .value) % 65536) (c .log)) c) >>= λ (p : LogCtx × ℕ). walkParams (paramsFrom s (a + 4) n) (heldName 0 (le 2 s a) (p .1) (parseIrType (le 2 s (a + 2))) ∷ es) (p .0))
 unfolding paramsFrom walkParams
 one-more s a n es c = refl
 
--- i of the n parameters at `at` are held, and what is left gives what the whole gives
-pub record Going (s : List ℕ) (at n fid : ℕ) (log₀ types₀ : List ℕ) (flow₀ : Flow) (log types : List ℕ) (scopes : Scopes) (flow : Flow) (i : ℕ) : Type 0 where
-  pub within : i ≤ n
-  pub sound : Sound flow
-  pub count : scopes .count ≡ i
-  pub kept : i ≤ flow .local
-  pub left : (starts stops : List ℕ) → walkParams (paramsFrom s (at + 4 * i) (n - i)) (entriesOf (scopes .entries) (scopes .count)) (ctxIn fid log types starts stops flow) ≡ walkParams (paramsFrom s at n) [] (ctxIn fid log₀ types₀ starts stops flow₀)
+-- the state after a value is taken
+taken : {c f : FnCtx} {v : CountedValue} → v ≡ countedValue (c .counters) → f ≡ withCounters c (v .counters) → f ≡ withCounters c (countedValue (c .counters) .counters)
+taken p q = rw p at q
 
-pub begins : (s : List ℕ) (at n fid : ℕ) (log types : List ℕ) (scopes : Scopes) (flow : Flow) → Sound flow → scopes .count ≡ 0 → Going s at n fid log types flow log types scopes flow 0
-unfolding entriesOf
-begins s at n fid log types scopes flow h e =
+pub taken-sound : {c f : FnCtx} {v : CountedValue} → v ≡ countedValue (c .counters) → f ≡ withCounters c (v .counters) → Sound c → Sound f
+taken-sound p q h = rw (taken p q) (record { blocks = h .blocks; locals = h .locals; current = h .current })
+
+-- i of the n parameters at `at` are held, and what is left gives what the whole gives
+pub record Going (s : List ℕ) (at n : ℕ) (log₀ tables₀ : List ℕ) (c₀ : FnCtx) (log tables : List ℕ) (scopes : Scopes) (c : FnCtx) (i : ℕ) : Type 0 where
+  pub within : i ≤ n
+  pub sound : Sound c
+  pub count : scopes .count ≡ i
+  pub scope : scopes .scope ≡ 0
+  pub kept : i ≤ c .counters .local
+  pub left : walkParams (paramsFrom s (at + 4 * i) (n - i)) (heldIn (scopes .entries) (scopes .count)) (ctxIn log tables c) ≡ walkParams (paramsFrom s at n) [] (ctxIn log₀ tables₀ c₀)
+
+pub begins : (s : List ℕ) (at n : ℕ) (log tables : List ℕ) (scopes : Scopes) (c : FnCtx) → Sound c → (scopes .count ≡ 0) × (scopes .scope ≡ 0) → Going s at n log tables c log tables scopes c 0
+unfolding heldIn
+begins s at n log tables scopes c h e =
     let a : at + 4 * 0 ≡ at = omega arith in
     let m : n - 0 ≡ n = omega arith in
-    record { within = omega arith; sound = h; count = e; kept = omega arith; left = λ starts stops. rw (e, a, m) }
+    record { within = omega arith; sound = h; count = e .0; scope = e .1; kept = omega arith; left = rw (e .0, a, m) }
 
-module _ {s : List ℕ} {at n fid : ℕ} {log₀ types₀ : List ℕ} {flow₀ : Flow} {log types : List ℕ} {scopes : Scopes} {flow : Flow} {i : ℕ} (g : Going s at n fid log₀ types₀ flow₀ log types scopes flow i) where
+module _ {s : List ℕ} {at n : ℕ} {log₀ tables₀ : List ℕ} {c₀ : FnCtx} {log tables : List ℕ} {scopes : Scopes} {c : FnCtx} {i : ℕ} (g : Going s at n log₀ tables₀ c₀ log tables scopes c i) where
   -- all are held
-  pub ends : (i < n → ⊥) → (starts stops : List ℕ) → _≡_ {A = Lowering (Ctx × Scope)} (ok (ctxIn fid log types starts stops flow, entriesOf (scopes .entries) (scopes .count))) (walkParams (paramsFrom s at n) [] (ctxIn fid log₀ types₀ starts stops flow₀))
+  pub ends : (i < n → ⊥) → Begins s at n log₀ tables₀ c₀ log tables (record { scopes = scopes; step = step.Next c })
   unfolding paramsFrom walkParams
-  ends h starts stops =
+  ends h =
       let w = g .within in
       let m : n - i ≡ 0 = omega arith in
-      rw m at (g .left starts stops)
+      record { is = rw m at (g .left); sound = (g .sound, omega (arith, g .count, g .kept)); scope = g .scope }
 
-  -- the next one, of the type `ty`, at the value and place of `f`; what came of its local
-  module _ (l : i < n) (ty : IrType) (f : Flow) (log' types' : List ℕ) (r : Made) where
-    abbrev Parts : Type 0
-    Parts = (asType ty ≡ parseIrType (le 2 s (at + 4 * i + 2))) × ((starts stops : List ℕ) → ctxIn fid log types starts stops f ≡ withLog (logOf log (suc (flow .value .0) % 65536) (flow .to)) (ctxIn fid log types starts stops flow)) × ((starts stops : List ℕ) → madeIn fid log' types' starts stops r ≡ initLocal (asType ty) (flow .value .0) (ctxIn fid log types starts stops f))
+  -- the next one: the value that is taken, the state after that, its type, and what came of its local
+  module _ (l : i < n) (v : CountedValue) (f : FnCtx) (ty : IrType) (log′ tables′ : List ℕ) (r : MadeLocal) where
+    abbrev Turn : Type 0
+    Turn = (v ≡ countedValue (c .counters)) × (f ≡ withCounters c (v .counters)) × (asType ty ≡ parseIrType (le 2 s (at + 4 * i + 2))) × MakesLocal (initLocal (asType ty) (v .id .0)) log tables f log′ tables′ r
 
-    next-is : Parts → (starts stops : List ℕ)
-        → (madeIn fid log' types' starts stops r >>= λ (p : Ctx × ℕ). walkParams (paramsFrom s (at + 4 * (i + 1)) (n - (i + 1))) ((le 2 s (at + 4 * i), p .1, asType ty) ∷ entriesOf (scopes .entries) (scopes .count)) (p .0)) ≡ walkParams (paramsFrom s at n) [] (ctxIn fid log₀ types₀ starts stops flow₀)
-    next-is p starts stops =
+    next-is : Turn → (localIn log′ tables′ r >>= λ (p : LogCtx × ℕ). walkParams (paramsFrom s (at + 4 * (i + 1)) (n - (i + 1))) (heldName 0 (le 2 s (at + 4 * i)) (p .1) (asType ty) ∷ heldIn (scopes .entries) (scopes .count)) (p .0)) ≡ walkParams (paramsFrom s at n) [] (ctxIn log₀ tables₀ c₀)
+    next-is t =
         let m : n - i ≡ suc (n - (i + 1)) = omega arith in
         let a : at + 4 * (i + 1) ≡ at + 4 * i + 4 = omega arith in
-        rw (p .2 starts stops, p .1 starts stops, p .0, a) (sym (one-more s (at + 4 * i) (n - (i + 1)) _ (ctxIn fid log types starts stops flow)) ∙ (rw m at (g .left starts stops)))
+        rw (t .3 .is, taken (t .0) (t .1), t .0, t .2, a) (sym (one-more s (at + 4 * i) (n - (i + 1)) _ (ctxIn log tables c)) ∙ (rw m at (g .left)))
 
     -- it was refused
-    pub stops-at : Parts → (e : LoweringError) → r ≡ made.Refused e → (starts stops : List ℕ) → _≡_ {A = Lowering (Ctx × Scope)} (err (errorOf e)) (walkParams (paramsFrom s at n) [] (ctxIn fid log₀ types₀ starts stops flow₀))
-    stops-at p e q starts stops = rw q at (next-is p starts stops)
+    pub stops-at : Turn → (e : LoweringError) → r ≡ local.Refused e → (later : Scopes) → later .scope ≡ scopes .scope → Begins s at n log₀ tables₀ c₀ log′ tables′ (record { scopes = later; step = step.Refused e })
+    stops-at t e q later z = record { is = rw q at (next-is t); sound = tt; scope = z ∙ g .scope }
 
-    -- it is held, with the local k
-    pub goes-on : Parts → Grown flow f → LocalMade f r → (next : Flow) (k : ℕ) → r ≡ made.Next next k → (scopes' : Scopes) (x : ℕ)
-        → (scopes' .count ≡ scopes .count + 1) × (entriesOf (scopes' .entries) (scopes' .count) ≡ entryOf x ∷ entriesOf (scopes .entries) (scopes .count))
-        → entryOf x ≡ (le 2 s (at + 4 * i), k, asType ty)
-        → Going s at n fid log₀ types₀ flow₀ log' types' scopes' next (i + 1)
-    goes-on p h m next k q scopes' x d e =
-        let w : LocalMade f (made.Next next k) = rw q at m in
+    -- it is held under the name m, with the local k
+    pub goes-on : Turn → (next : FnCtx) (k : LocalId) → r ≡ local.Made next k → (later : Scopes) (m : ℕ) → m ≡ le 2 s (at + 4 * i) → (later .scope ≡ scopes .scope) × (later .count ≡ scopes .count + 1)
+        → heldIn (later .entries) (later .count) ≡ heldName (scopes .scope) m (k .0) (asType ty) ∷ heldIn (scopes .entries) (scopes .count) → Going s at n log₀ tables₀ c₀ log′ tables′ later next (i + 1)
+    goes-on t next k q later m e d h =
+        let w = local-told f q (t .3 .grown) in
+        let z : f .counters .local ≡ c .counters .local = ap (λ (x : FnCtx). x .counters .local) (taken (t .0) (t .1)) in
         record {
           within = omega arith;
           sound = w .0 .sound;
-          count = d .0 ∙ ap (λ (j : ℕ). j + 1) (g .count);
-          kept = omega (arith, h .locals, g .kept, w .1 .0, w .1 .1);
-          left = λ starts stops. rw (d .1, e) (rw q at (next-is p starts stops));
+          count = d .1 ∙ ap (λ (j : ℕ). j + 1) (g .count);
+          scope = d .0 ∙ g .scope;
+          kept = omega (arith, g .kept, w .1, z);
+          left = rw (h, g .scope, e) (rw q at (next-is t));
         }
 
--- what is known of the state after the parameters
-pub begun-sound : (b : Begun) (f : Flow) → b .step ≡ step.Next f → BegunSound b → Sound f × (b .scopes .count ≤ f .local)
-begun-sound b f q h = rw q at h
+-- A FUNCTION: the state before its parameters
+pub new-sound : (f : FunctionId) (c : FnCtx) → c ≡ newCtx f → Sound c × (c .current .0 < c .counters .block)
+new-sound f c e = rw e (record { blocks = omega arith; locals = omega arith; current = omega arith }, omega arith)
 
-pub statements-at : {s : List ℕ} {at : ℕ} (n to : ℕ) → FunctionAt s at 39 → n ≡ le 2 s (at + 12) → to ≡ le 4 s at → ReadyAll Class.statement s (at + 14 + 4 * n) (at + to) 38
-statements-at n to F p q = rw (p, q) (F .statements)
+pub opened : (f : FunctionId) (c d : FnCtx) (log tables tables₁ : List ℕ) → c ≡ newCtx f → Changes (switchTo (c .current .0)) log tables c log tables₁ d → ctxIn log tables₁ d ≡ walk.newCtx (f .0) (startsOf tables) (stopsOf tables)
+unfolding walk.newCtx switchTo localsOf
+opened f c d log tables tables₁ e h = h .is ∙ rw e refl
 
--- A FUNCTION, from its parameters, its statements and its last Return
-module _ (K : Contract) (i : ℕ) (g : Function) (starts stops : List ℕ) where
-  params-stop : (x : Refusal) → err x ≡ walkParams (g .params) [] (newCtx i starts stops) → err x ≡ walkFunction K i g starts stops
+-- the parameters of the function with id i at a place, of which there are n, came to b
+pub record Started (s : List ℕ) (at i : ℕ) (tables log tables₁ : List ℕ) (c : FnCtx) (n : ℕ) (log₁ tables₂ : List ℕ) (b : Begun) : Type 0 where
+  pub function : FunctionAt s at 39
+  pub state : ctxIn log tables₁ c ≡ walk.newCtx i (startsOf tables) (stopsOf tables)
+  pub count : n ≡ le 2 s (at + 12)
+  pub params : Begins s (at + 14) n log tables₁ c log₁ tables₂ b
+
+abbrev last : LogCtx → Lowering LogCtx
+last d = ok (terminateIfOpen (Terminator.Return none) d)
+
+module _ {s : List ℕ} {at i : ℕ} {tables log tables₁ : List ℕ} {c : FnCtx} {n : ℕ} {log₁ tables₂ : List ℕ} {b : Begun} (S : Started s at i tables log tables₁ c n log₁ tables₂ b) where
+  abbrev whole : Lowering LogCtx
+  whole = walkFunction (readContract s) i (functionAt s at) (startsOf tables) (stopsOf tables)
+
+  begun : (begunIn log₁ tables₂ b >>= λ (p : LogCtx × Held). walkStmts (readContract s) 0 (p .1) (functionAt s at .body) (p .0) >>= last) ≡ whole
   unfolding walkFunction
-  params-stop x e = rw (← e)
+  begun = rw (S .params .is, S .count, S .state, ← S .function .params) refl
 
-  stmts-stop : (c : Ctx) (es : Scope) (x : Refusal) → ok (c, es) ≡ walkParams (g .params) [] (newCtx i starts stops) → err x ≡ walkStmts K es (g .body) c → err x ≡ walkFunction K i g starts stops
-  unfolding walkFunction
-  stmts-stop c es x e f = rw (← e, ← f)
+  pub params-refused : {e : LoweringError} → b .step ≡ step.Refused e → (log′ tables′ : List ℕ) → FunctionWalked s at i tables log′ tables′ (step.Refused e)
+  params-refused q log′ tables′ = record { is = rw q at begun; sound = tt }
 
-  function-ends : (c : Ctx) (es : Scope) (d : Ctx) → ok (c, es) ≡ walkParams (g .params) [] (newCtx i starts stops) → ok d ≡ walkStmts K es (g .body) c → ok (terminateIfOpen (Terminator.Return none) d) ≡ walkFunction K i g starts stops
-  unfolding walkFunction
-  function-ends c es d e f = rw (← e, ← f)
+  -- its statements, up to its end, came to r
+  module _ {d : FnCtx} {size : ℕ} (p : b .step ≡ step.Next d) (z : size ≡ le 4 s at) where
+    -- what is known before them
+    pub ready : ReadyAll Class.statement s (at + 14 + 4 * n) (at + size) 38
+    ready = rw (S .count, z) (S .function .statements)
 
--- the function at `at`, whose n parameters came to b
-module _ (K : Contract) {s : List ℕ} {at : ℕ} (F : FunctionAt s at 39) (i : ℕ) (starts stops log types log₁ types₁ : List ℕ) (flow : Flow) (n : ℕ) (b : Begun) where
-  abbrev BegunBy : Type 0
-  BegunBy = (n ≡ le 2 s (at + 12)) × (ctxIn i log types (set starts 0 0) stops flow ≡ newFlow i (set starts 0 0) stops) × (begunIn i log₁ types₁ (set starts 0 0) stops b ≡ walkParams (paramsFrom s (at + 14) n) [] (ctxIn i log types (set starts 0 0) stops flow))
+    pub sound : Sound d × ((b .scopes .count ≤ d .counters .local) × (b .scopes .scope + 38 ≤ 40))
+    sound =
+        let e = S .params .scope in
+        let w : Sound d × (b .scopes .count ≤ d .counters .local) = rw p at (S .params .sound) in
+        (w .0, (w .1, omega arith))
 
-  begun : BegunBy → begunIn i log₁ types₁ (set starts 0 0) stops b ≡ walkParams (functionAt s at .params) [] (newCtx i starts stops)
-  unfolding newCtx
-  begun p = p .2 ∙ rw (p .0, p .1, F .params)
+    module _ {log₂ tables₃ : List ℕ} {r : Step} (D : StmtsDone s (at + 14 + 4 * n) (at + size) (b .scopes) log₁ tables₂ d log₂ tables₃ r) where
+      walked : (stepIn log₂ tables₃ r >>= last) ≡ whole
+      walked = rw (D .is, S .params .scope, S .count, z, ← S .function .body) (rw p at begun)
 
-  pub params-refused : BegunBy → (e : LoweringError) → b .step ≡ step.Refused e → err (errorOf e) ≡ walkFunction K i (functionAt s at) starts stops
-  params-refused p e q = params-stop K i (functionAt s at) starts stops (errorOf e) (rw q at (begun p))
+      pub stmts-refused : {e : LoweringError} → r ≡ step.Refused e → FunctionWalked s at i tables log₂ tables₃ (step.Refused e)
+      stmts-refused q = record { is = rw q at walked; sound = tt }
 
-  -- and whose statements came to r
-  module _ (f : Flow) (to : ℕ) (log₂ types₂ starts₂ stops₂ : List ℕ) (r : Step) where
-    abbrev WalkedBy : Type 0
-    WalkedBy = (to ≡ le 4 s at) × (b .step ≡ step.Next f) × (stepIn i log₂ types₂ starts₂ stops₂ r ≡ walkStmts K (entriesOf (b .scopes .entries) (b .scopes .count)) (stmtsFrom s (at + 14 + 4 * n) (at + to)) (ctxIn i log₁ types₁ (set starts 0 0) stops f))
-
-    walked : BegunBy → WalkedBy → stepIn i log₂ types₂ starts₂ stops₂ r ≡ walkStmts K (entriesOf (b .scopes .entries) (b .scopes .count)) (functionAt s at .body) (ctxIn i log₁ types₁ (set starts 0 0) stops f)
-    walked p w = w .2 ∙ rw (p .0, w .0, F .body)
-
-    pub stmts-refused : BegunBy → WalkedBy → (e : LoweringError) → r ≡ step.Refused e → err (errorOf e) ≡ walkFunction K i (functionAt s at) starts stops
-    stmts-refused p w e q = stmts-stop K i (functionAt s at) starts stops _ _ (errorOf e) (rw (w .1) at (begun p)) (rw q at (walked p w))
-
-    pub stmts-passed : BegunBy → WalkedBy → (next : Flow) (d : Ctx) → r ≡ step.Next next → d ≡ terminateIfOpen (Terminator.Return none) (ctxIn i log₂ types₂ starts₂ stops₂ next) → ok d ≡ walkFunction K i (functionAt s at) starts stops
-    stmts-passed p w next d q e = rw e (function-ends K i (functionAt s at) starts stops _ _ _ (rw (w .1) at (begun p)) (rw q at (walked p w)))
+      pub stmts-passed : {f g : FnCtx} {log₃ tables₄ : List ℕ} → r ≡ step.Next f → Changes (terminateIfOpen (Terminator.Return none)) log₂ tables₃ f log₃ tables₄ g → FunctionWalked s at i tables log₃ tables₄ (step.Next g)
+      stmts-passed q h = record { is = ap ok (h .is) ∙ (rw q at walked); sound = h .grown .sound }

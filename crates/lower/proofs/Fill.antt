@@ -1,6 +1,6 @@
 -- Parts laid down one behind the other, the head in front of them, and the zeros behind. Assumes nothing.
 use mathlib.Core.Path.{_≡_, refl, sym, ap, _∙_}
-use mathlib.Core.Bool.{Bool, true, false, _&&_}
+use mathlib.Core.Bool.{true, false, _&&_}
 use mathlib.Core.List.{List, [], _∷_, _++_, append-assoc, append-nil}
 use Prim.Native.Nat.{ℕ, zero, suc, _+_, _-_, _≤_, _<_}
 use native.Mathlib.Omega.{arith}
@@ -13,24 +13,22 @@ use Rattle.definitions.specs.Fields.{bytes}
 use Rattle.definitions.specs.Result.{ok}
 use Rattle.definitions.specs.Records.{writeRecord}
 use Rattle.definitions.specs.Answers.{padded}
-use Rattle.layout.specs.Laid.{roomOf, Laid}
+use Rattle.definitions.proofs.Results.{by-test}
+use Rattle.lower_layout.specs.Laid.{roomOf, Laid}
 use Rattle.lower.specs.Whole.{Filled, programAnswer, Answered}
+use Rattle.lower.specs.declared.Answer.{Answer}
 use Rattle.lower.specs.declared.Answer.the-variants as answer
+
+-- one number is at most another, or over it
+pub either : {G : Type 0} (a b : ℕ) → (a ≤ b → G) → (b < a → G) → G
+either a b y n = by-test (leb a b) (λ q. y (leb-true a b q)) (λ q. n (leb-false a b q))
 
 -- THE ROOM
 pub room-low : (n : ℕ) → (roomOf n ≤ 32768) × (roomOf n ≤ n)
-room-low n = go (leb n 32768) refl
-  where
-    go : (t : Bool) → leb n 32768 ≡ t → (roomOf n ≤ 32768) × (roomOf n ≤ n)
-    go true q = let h : n ≤ 32768 = leb-true n 32768 q in rw q (h, omega arith)
-    go false q = let h : 32768 < n = leb-false n 32768 q in rw q (omega arith, omega arith)
+room-low n = by-test (leb n 32768) (λ q. rw q (leb-true n 32768 q, omega arith)) (λ q. rw q (omega arith, omega (arith, leb-false n 32768 q)))
 
 pub room-in : (n k : ℕ) → k ≤ 32768 → k ≤ n → k ≤ roomOf n
-room-in n k a b = go (leb n 32768) refl
-  where
-    go : (t : Bool) → leb n 32768 ≡ t → k ≤ roomOf n
-    go true q = rw q b
-    go false q = rw q a
+room-in n k a b = by-test (leb n 32768) (λ q. rw q b) (λ q. rw q a)
 
 -- ONE BEHIND THE OTHER
 sets-then : (x y l : List ℕ) (a : ℕ) → sets (sets l a x) (a + length x) y ≡ sets l a (x ++ y)
@@ -57,15 +55,9 @@ then-filled {x} {y} {before} {mid} {after} {to} {m} {r} a b = record { same-leng
         (g .0 ∙ rw (f .0, e) (sets-then x y before to), omega (arith, long, e, g .1))
 
     over : roomOf (length before) < to + length (x ++ y) → roomOf (length before) < r
-    over h = go (leb (to + length x) (roomOf (length before))) refl
-      where
-        go : (t : Bool) → leb (to + length x) (roomOf (length before)) ≡ t → roomOf (length before) < r
-        go true q =
-            let e : m ≡ to + length x = a .fits (leb-true _ _ q) .1 in
-            rw (a .same-length) at (b .over (rw (a .same-length) (omega (arith, long, e, h))))
-        go false q =
-            let l : roomOf (length before) < m = a .over (leb-false _ _ q) in
-            rw (a .same-length) at (b .over (rw (a .same-length) (omega (arith, l))))
+    over h =
+        let past : roomOf (length before) < m + length y = either (to + length x) (roomOf (length before)) (λ q. omega (arith, long, a .fits q .1)) (λ q. omega (arith, a .over q)) in
+        rw (a .same-length) at (b .over (rw (a .same-length) past))
 
 -- THE HEAD
 at-start : (h l : List ℕ) → length h ≡ 6 → 6 ≤ length l → sets l 0 h ≡ h ++ drop 6 l
@@ -113,53 +105,43 @@ record-length body = omega arith
 
 -- more than the room, and within it
 over-room : (n k : ℕ) → roomOf n < k → (leb k 32768 && leb k n) ≡ false
-over-room n k h = go (leb k 32768) refl (leb k n) refl
-  where
-    go : (a : Bool) → leb k 32768 ≡ a → (b : Bool) → leb k n ≡ b → (leb k 32768 && leb k n) ≡ false
-    go false p b q = rw p
-    go true p false q = rw (p, q)
-    go true p true q = absurd (let z : k ≤ roomOf n = room-in n k (leb-true k 32768 p) (leb-true k n q) in omega arith)
+over-room n k h = by-test (leb k 32768) (λ p. by-test (leb k n) (λ q. absurd (omega (arith, room-in n k (leb-true k 32768 p) (leb-true k n q)))) (λ q. rw (p, q))) (λ p. rw p)
 
 in-room : (n k : ℕ) → k ≤ roomOf n → (leb k 32768 && leb k n) ≡ true
 in-room n k h = let w = room-low n in rw (le-leb k 32768 (omega (arith, w .0)), le-leb k n (omega (arith, w .1)))
 
 module _ {body before out : List ℕ} {to : ℕ} (f : Filled body before 6 out to) where
-  pub refused-31 : roomOf (length out) < to → Answered (programAnswer body (length before)) (length before) out answer.NoRoom
-  refused-31 h = go (leb (6 + length body) (roomOf (length before))) refl
-    where
-      go : (t : Bool) → leb (6 + length body) (roomOf (length before)) ≡ t → Answered (programAnswer body (length before)) (length before) out answer.NoRoom
-      go true q = absurd (let e : to ≡ 6 + length body = f .fits (leb-true _ _ q) .1 in let l : 6 + length body ≤ roomOf (length before) = leb-true _ _ q in omega (arith, rw (f .same-length) at h))
-      go false q =
-          let o : (leb (length (writeRecord 50 body)) 32768 && leb (length (writeRecord 50 body)) (length before)) ≡ false = rw (record-length body) (over-room (length before) (6 + length body) (leb-false _ _ q)) in
-          record { is = rw o refl; same-length = f .same-length; holds = rw o tt }
+  abbrev Done : List ℕ → Answer → Type 0
+  Done after r = Answered (programAnswer body (length before)) (length before) after r
 
-  pub accepted : to ≤ roomOf (length out) → Answered (programAnswer body (length before)) (length before) (sets (sets out 0 (bytes 4 to)) 4 (bytes 2 50)) (answer.Accepted to)
+  pub refused-31 : roomOf (length out) < to → Done out answer.NoRoom
+  refused-31 h =
+      either (6 + length body) (roomOf (length before))
+      (λ l. absurd (omega (arith, f .fits l .1, rw (f .same-length) at h)))
+      (λ l. let o : (leb (length (writeRecord 50 body)) 32768 && leb (length (writeRecord 50 body)) (length before)) ≡ false = rw (record-length body) (over-room (length before) (6 + length body) l) in
+      record { is = rw o refl; same-length = f .same-length; holds = rw o tt })
+
+  -- with the head in front
+  abbrev headed-out : List ℕ
+  headed-out = sets (sets out 0 (bytes 4 to)) 4 (bytes 2 50)
+
+  fitted : 6 + length body ≤ roomOf (length before) → Done headed-out (answer.Accepted to)
   unfolding writeRecord bytes
-  accepted h = go (leb (6 + length body) (roomOf (length before))) refl
-    where
-      go : (t : Bool) → leb (6 + length body) (roomOf (length before)) ≡ t → Answered (programAnswer body (length before)) (length before) (sets (sets out 0 (bytes 4 to)) 4 (bytes 2 50)) (answer.Accepted to)
-      go false q = absurd (let l : roomOf (length before) < to = f .over (leb-false _ _ q) in omega (arith, rw (f .same-length) at h))
-      go true q =
-          let l : 6 + length body ≤ roomOf (length before) = leb-true _ _ q in
-          let e : to ≡ 6 + length body = f .fits l .1 in
-          let w : roomOf (length before) ≤ length before = room-low (length before) .1 in
-          let i : (leb (length (writeRecord 50 body)) 32768 && leb (length (writeRecord 50 body)) (length before)) ≡ true = rw (record-length body) (in-room (length before) (6 + length body) l) in
-          let s : sets (sets out 0 (bytes 4 to)) 4 (bytes 2 50) ≡ sets (sets before 6 body) 0 (bytes 4 to ++ bytes 2 50) = rw (f .fits l .0) (sets-then (bytes 4 to) (bytes 2 50) (sets before 6 body) 0) in
-          let n : length (sets (sets out 0 (bytes 4 to)) 4 (bytes 2 50)) ≡ length before = ap length s ∙ length-sets (sets before 6 body) 0 (bytes 4 to ++ bytes 2 50) ∙ length-sets before 6 body in
-          let t : take (6 + length body) (sets (sets out 0 (bytes 4 to)) 4 (bytes 2 50)) ≡ writeRecord 50 body = ap (take (6 + length body)) s ∙ headed before body (bytes 4 to ++ bytes 2 50) refl (omega (arith, l, w)) ∙ rw e refl in
-          record { is = rw i (ap ok (e ∙ sym (record-length body))); same-length = n; holds = rw i (rw (n, record-length body) (omega (arith, l, w)), rw (record-length body) t) }
+  fitted l =
+      let e : to ≡ 6 + length body = f .fits l .1 in
+      let w : roomOf (length before) ≤ length before = room-low (length before) .1 in
+      let i : (leb (length (writeRecord 50 body)) 32768 && leb (length (writeRecord 50 body)) (length before)) ≡ true = rw (record-length body) (in-room (length before) (6 + length body) l) in
+      let s : headed-out ≡ sets (sets before 6 body) 0 (bytes 4 to ++ bytes 2 50) = rw (f .fits l .0) (sets-then (bytes 4 to) (bytes 2 50) (sets before 6 body) 0) in
+      let n : length headed-out ≡ length before = ap length s ∙ length-sets (sets before 6 body) 0 (bytes 4 to ++ bytes 2 50) ∙ length-sets before 6 body in
+      let t : take (6 + length body) headed-out ≡ writeRecord 50 body = ap (take (6 + length body)) s ∙ headed before body (bytes 4 to ++ bytes 2 50) refl (omega (arith, l, w)) ∙ rw e refl in
+      record { is = rw i (ap ok (e ∙ sym (record-length body))); same-length = n; holds = rw i (rw (n, record-length body) (omega (arith, l, w)), rw (record-length body) t) }
+
+  pub accepted : to ≤ roomOf (length out) → Done headed-out (answer.Accepted to)
+  accepted h = either (6 + length body) (roomOf (length before)) fitted (λ l. absurd (omega (arith, f .over l, rw (f .same-length) at h)))
+
+  pub below-six : to < 6 → roomOf (length out) < to
+  below-six h = either (6 + length body) (roomOf (length before)) (λ l. absurd (omega (arith, f .fits l .1))) (λ l. rw (f .same-length) (f .over l))
 
 -- a place that is within the room is behind the head
 pub behind-head : (to room : ℕ) → (to < 6 → room < to) → to ≤ room → 6 ≤ to
-behind-head to room q h = go (leb 6 to) refl
-  where
-    go : (t : Bool) → leb 6 to ≡ t → 6 ≤ to
-    go true e = leb-true 6 to e
-    go false e = absurd (let l : room < to = q (leb-false 6 to e) in omega arith)
-
-pub below-six : {body before out : List ℕ} {to : ℕ} → Filled body before 6 out to → to < 6 → roomOf (length out) < to
-below-six {body} {before} {out} {to} f h = go (leb (6 + length body) (roomOf (length before))) refl
-  where
-    go : (t : Bool) → leb (6 + length body) (roomOf (length before)) ≡ t → roomOf (length out) < to
-    go true q = absurd (let e : to ≡ 6 + length body = f .fits (leb-true _ _ q) .1 in omega arith)
-    go false q = rw (f .same-length) (f .over (leb-false _ _ q))
+behind-head to room q h = either 6 to (λ l. l) (λ l. absurd (omega (arith, q l)))

@@ -1,13 +1,12 @@
 -- From the walk of a function to its record at its place, and from the functions placed so far to all of them. Assumes nothing.
 use mathlib.Core.Path.{_≡_, refl, sym, ap, _∙_, subst}
-use mathlib.Core.Bool.{Bool, true, false}
 use mathlib.Core.List.{List, [], _∷_, _++_, append-assoc, append-nil}
-use Prim.Native.Nat.{ℕ, zero, suc, _+_, _≤_, _<_}
+use Prim.Native.Nat.{ℕ, zero, suc, _+_, _-_, _≤_, _<_}
 use native.Mathlib.Numerals.{add-one}
 use native.Mathlib.Omega.{arith}
-use borrow.Author.Tests.{leb-true, leb-false, eq-eqb, ne-eqb}
-use lib.Dec.{leb}
-use lib.ListN.{length}
+use borrow.Author.Tests.{eq-eqb, ne-eqb}
+use lib.ListN.{length, drop, length-drop}
+use lib.Seq.{length-take-le}
 use Rattle.definitions.specs.Fields.{le}
 use Rattle.definitions.specs.Result.{Result, err, ok, _>>=_}
 use Rattle.definitions.specs.Ast.{Function, Contract}
@@ -19,24 +18,26 @@ use Rattle.definitions.specs.Records.{Tree, tnil, readRecords, gather, treesOf,
 use Rattle.definitions.specs.ProgramSheet.{functionTree}
 use Rattle.definitions.specs.ContractSheet.{functionOf, readContract, Counts, oneIf}
 use Rattle.definitions.proofs.Sheets.Passed.{read-end}
-use Rattle.sheet.specs.Passed.{kindOf, stopOf}
-use Rattle.nodes.specs.Ready.{Checked, Ready, treeAt, functionAt, paramsFrom}
+use Rattle.sheet.specs.Passed.{recordKind, stopOf}
+use Rattle.contract_nodes.specs.Ready.{Ready, treeAt, functionAt, paramsFrom}
+use Rattle.sheet.specs.Passed.{ContractPassed}
 use Rattle.definitions.proofs.Contracts.Limits.{TopKind, gather-here, gather-past}
-use Rattle.nodes.proofs.Tops.{Tops, Top, next-top, contract-at, function-at}
-use Rattle.walk.specs.Stmts.{Ctx}
-use Rattle.walk.specs.Layout.{walkFunction, functionBytes}
-use Rattle.walk.proofs.Functions.{Whole, Same, function-same}
-use Rattle.names.specs.Answers.{errorOf}
-use Rattle.flow.specs.Flows.{ctxIn, stepIn}
-use Rattle.layout.specs.Laid.{roomOf, Laid}
-use Rattle.lower.specs.Whole.{Filled, FunctionPlaced, FunctionsPlaced}
-use Rattle.names.specs.declared.LoweringError.{LoweringError}
-use Rattle.flow.specs.declared.Flow.{Flow}
-use Rattle.flow.specs.declared.Step.{Step}
-use Rattle.flow.specs.declared.Step.the-variants as step
+use Rattle.contract_nodes.proofs.Tops.{Tops, Top, next-top, contract-at, function-at}
+use Rattle.lower_walk.specs.Stmts.{LogCtx}
+use Rattle.lower_walk.proofs.Functions.{Whole, Same, function-same}
+use Rattle.lower_state.specs.Errors.{errorOf}
+use Rattle.lower_state.specs.State.{startsOf, stopsOf, ctxIn, Sound}
+use Rattle.lower_state.specs.declared.FnCtx.{FnCtx}
+use Rattle.lower_state.specs.declared.LoweringError.{LoweringError}
+use Rattle.lower_flow.specs.Flows.{stepIn}
+use Rattle.lower_layout.specs.Laid.{roomOf, Laid}
+use Rattle.lower_layout.specs.Stored.{Within, recordOf}
+use Rattle.lower.specs.Whole.{StepSound, FunctionWalked, Filled, FunctionPlaced, FunctionsPlaced}
+use Rattle.lower_flow.specs.declared.Step.{Step}
+use Rattle.lower_flow.specs.declared.Step.the-variants as step
 use Rattle.lower.specs.declared.Placed.{Placed}
 use Rattle.lower.specs.declared.Placed.the-variants as placed
-use Rattle.lower.proofs.Fill.{room-low, filled-of, nothing, then-filled}
+use Rattle.lower.proofs.Fill.{either, room-low, filled-of, nothing, then-filled}
 
 -- A FUNCTION: what its walk came to, and its record
 params-long : (s : List ℕ) (at n : ℕ) → length (paramsFrom s at n) ≡ n
@@ -44,38 +45,57 @@ unfolding paramsFrom
 params-long s at zero = refl
 params-long s at (suc n) = ap suc (params-long s (at + 4) n)
 
-module _ {s : List ℕ} {at : ℕ} (R : Ready Class.function s at 39) (K : Contract) (i : ℕ) (starts stops : List ℕ) (a : length starts ≡ 256) (b : length stops ≡ 256) (log types starts′ stops′ : List ℕ) (r : Step) (e : stepIn i log types starts′ stops′ r ≡ walkFunction K i (functionAt s at) starts stops) where
-  same : Same i (functionAt s at) (lowerFunction K i (functionAt s at)) (stepIn i log types starts′ stops′ r)
+starts-long : (tables : List ℕ) → length tables ≡ 768 → length (startsOf tables) ≡ 256
+unfolding startsOf
+starts-long tables e =
+    let d : length (drop 256 tables) ≡ length tables - 256 = length-drop 256 tables in
+    length-take-le 256 (drop 256 tables) (omega (arith, d))
+
+stops-long : (tables : List ℕ) → length tables ≡ 768 → length (stopsOf tables) ≡ 256
+unfolding stopsOf
+stops-long tables e =
+    let d : length (drop 512 tables) ≡ length tables - 512 = length-drop 512 tables in
+    omega arith
+
+module _ {s : List ℕ} {at : ℕ} (R : Ready Class.function s at 39) {i : ℕ} {tables log tables′ : List ℕ} (long : length tables ≡ 768) {r : Step} (W : FunctionWalked s at i tables log tables′ r) where
+  abbrev Is : Step → Type 0
+  Is r = Same i (functionAt s at) (lowerFunction (readContract s) i (functionAt s at)) (stepIn log tables′ r)
+
+  same : Is r
   same =
       let F = function-at R in
       let l : length (functionAt s at .params) ≡ le 2 s (at + 12) = ap length (F .params) ∙ params-long s (at + 14) (le 2 s (at + 12)) in
-      subst (Same i (functionAt s at) (lowerFunction K i (functionAt s at))) (sym e) (function-same K i (functionAt s at) starts stops a b (omega (arith, l, F .few)))
+      rw (W .is) (function-same (readContract s) i (functionAt s at) (startsOf tables) (stopsOf tables) (starts-long tables long) (stops-long tables long) (omega (arith, l, F .few)))
 
-  pub walked : (f : Flow) → r ≡ step.Next f → (g : IrFunction) × ((lowerFunction K i (functionAt s at) ≡ ok g) × Whole i (functionAt s at) g (ctxIn i log types starts′ stops′ f))
-  walked f q = go (subst (λ (r : Step). Same i (functionAt s at) (lowerFunction K i (functionAt s at)) (stepIn i log types starts′ stops′ r)) q same)
-    where
-      go : {l : Lowering IrFunction} {c : Ctx} → Same i (functionAt s at) l (ok c) → (g : IrFunction) × ((l ≡ ok g) × Whole i (functionAt s at) g c)
-      go (Same.done g c w) = (g, (refl, w))
-
-  pub stopped : (x : LoweringError) → r ≡ step.Refused x → lowerFunction K i (functionAt s at) ≡ err (errorOf x)
-  stopped x q = go (subst (λ (r : Step). Same i (functionAt s at) (lowerFunction K i (functionAt s at)) (stepIn i log types starts′ stops′ r)) q same)
+  pub refused : {e : LoweringError} → r ≡ step.Refused e → lowerFunction (readContract s) i (functionAt s at) ≡ err (errorOf e)
+  refused q = go (subst Is q same)
     where
       go : {l : Lowering IrFunction} {y : lowering.LoweringError} → Same i (functionAt s at) l (err y) → l ≡ err y
       go (Same.refused y) = refl
 
--- laid down from a log that fits, or lost
-pub put : {i : ℕ} {f : Function} {g : IrFunction} {c : Ctx} {before after : List ℕ} {to r : ℕ} → Whole i f g c → (c .log .at ≤ 32768 → Laid (functionBytes i f c) before to after r)
-    → (32768 < c .log .at → (length after ≡ length before) × (r ≡ 32769)) → Filled (writeTree (functionTree g)) before to after r
-put {i} {f} {g} {c} {before} {after} {to} {r} W fits lost = go (leb (c .log .at) 32768) refl
-  where
-    go : (t : Bool) → leb (c .log .at) 32768 ≡ t → Filled (writeTree (functionTree g)) before to after r
-    go true q = let h = leb-true _ _ q in rw (W .kept h) (filled-of (fits h))
-    go false q =
-        let h = leb-false _ _ q in
-        let l = lost h in
-        let w : roomOf (length before) ≤ 32768 = room-low (length before) .0 in
-        let m = W .lost h in
-        record { same-length = l .0; fits = λ o. absurd (omega arith); over = λ o. omega (arith, l .1) }
+  module _ {c : FnCtx} (q : r ≡ step.Next c) where
+    pub sound : Sound c
+    sound = subst StepSound q (W .sound)
+
+    walked : (g : IrFunction) × ((lowerFunction (readContract s) i (functionAt s at) ≡ ok g) × Whole i (functionAt s at) g (ctxIn log tables′ c))
+    walked = go (subst Is q same)
+      where
+        go : {l : Lowering IrFunction} {c : LogCtx} → Same i (functionAt s at) l (ok c) → (g : IrFunction) × ((l ≡ ok g) × Whole i (functionAt s at) g c)
+        go (Same.done g c w) = (g, (refl, w))
+
+    pub within : c .to ≤ 32768 → Within (startsOf tables′) (stopsOf tables′) (c .counters .block) (c .to)
+    within = walked .1 .1 .ordered
+
+    -- laid down from a log that fits, or lost
+    pub put : {before after : List ℕ} {to p : ℕ} → (c .to ≤ 32768 → Laid (recordOf s at i log tables′ c) before to after p) → (32768 < c .to → (length after ≡ length before) × (p ≡ 32769)) → FunctionPlaced (readContract s) i (functionAt s at) before to after (placed.To p)
+    put {before} {after} {to} {p} fits lost = (walked .0, (walked .1 .0, either (c .to) 32768 (λ h. rw (walked .1 .1 .kept h) (filled-of (fits h))) over))
+      where
+        over : 32768 < c .to → Filled (writeTree (functionTree (walked .0))) before to after p
+        over h =
+            let l = lost h in
+            let w : roomOf (length before) ≤ 32768 = room-low (length before) .0 in
+            let m = walked .1 .1 .lost h in
+            record { same-length = l .0; fits = λ o. absurd (omega arith); over = λ o. omega (arith, l .1) }
 
 -- THE FUNCTIONS: `gs` are done, and those from `at` on are left
 abbrev Left : List ℕ → ℕ → List Function
@@ -112,7 +132,7 @@ module _ (K : Contract) (i : ℕ) (f : Function) (fs : List Function) (gs : List
   unfolding lowerFunctions
   not-lowered e = rw e refl
 
-pub begins : {s : List ℕ} (before : List ℕ) → Checked s → Along s before before 6 0 8
+pub begins : {s : List ℕ} (before : List ℕ) → ContractPassed s → Along s before before 6 0 8
 unfolding writeTrees
 begins {s} before C =
     let D = contract-at C in
@@ -148,14 +168,14 @@ module _ {s before after : List ℕ} {to i at : ℕ} (A : Along s before after t
     counted = top .counts TopKind.function ∙ ap (λ (n : ℕ). n + oneIf 4 (treeAt s at)) (A .count)
 
     -- a record of another kind
-    pub passes : (kindOf s at ≡ 4 → ⊥) → Along s before after to i (stopOf s at)
+    pub passes : (recordKind s at ≡ 4 → ⊥) → Along s before after to i (stopOf s at)
     passes k =
         let n : Left s at ≡ Left s (stopOf s at) = ap (gather 4 4 functionOf) (top .read) ∙ gather-past 4 functionOf (treeAt s at) (readRecords s (stopOf s at) (length s)) k in
-        let w : top .next .before .functions ≡ i + 0 = rw (ne-eqb (kindOf s at) 4 k) at counted in
+        let w : top .next .before .functions ≡ i + 0 = rw (ne-eqb (recordKind s at) 4 k) at counted in
         record { within = top .inside; tops = top .next; count = omega arith; gs = A .gs; left = onward n; filled = A .filled }
 
     -- a function
-    module _ (k : kindOf s at ≡ 4) where
+    module _ (k : recordKind s at ≡ 4) where
       pub ready : Ready Class.function s at 39
       ready = top .ready k
 
@@ -170,7 +190,7 @@ module _ {s before after : List ℕ} {to i at : ℕ} (A : Along s before after t
         where
           go : FunctionPlaced (readContract s) i (functionAt s at) after to later (placed.To r) → Along s before later r (i + 1) (stopOf s at)
           go (g, (e, f)) =
-              let w : top .next .before .functions ≡ i + 1 = rw (eq-eqb (kindOf s at) 4 k) at counted in
+              let w : top .next .before .functions ≡ i + 1 = rw (eq-eqb (recordKind s at) 4 k) at counted in
               record {
                 within = top .inside;
                 tops = top .next;

@@ -1,35 +1,46 @@
 // Lowering: from any bytes to a program sheet or one numbered refusal.
 ghost use mathlib.Core.Path.{_≡_};
-ghost use mathlib.Core.List.{List, []};
+ghost use mathlib.Core.List.{List};
 ghost use Prim.Native.Nat.{ℕ, _+_, _*_, _≤_, _<_};
 ghost use lib.ListN.{length, take};
 ghost use Rattle.definitions.specs.Answers.{lowerSheet, lengthOf, outputOf};
 ghost use Rattle.definitions.specs.ContractSheet.{readContract};
 ghost use Rattle.definitions.specs.Demand3.{Demand3Of};
 ghost use Rattle.definitions.specs.Grammar.{Class};
-ghost use Rattle.nodes.specs.Ready.{Checked, Ready, functionAt, paramsFrom};
-ghost use Rattle.walk.specs.Layout.{walkParams, walkFunction};
-ghost use Rattle.flow.specs.Flows.{ctxIn, stepIn, Sound};
-ghost use Rattle.layout.specs.Laid.{roomOf};
-ghost use Rattle.lower.specs.Whole.{begunIn, BegunSound, newFlow, StepSound, FunctionPlaced, FunctionsPlaced, Filled, Finished, answerOf, lowerRest, Answered, writtenBy};
+ghost use Rattle.contract_nodes.specs.Ready.{Ready, functionAt};
+ghost use Rattle.sheet.specs.Passed.{ContractPassed};
+ghost use Rattle.lower_state.specs.State.{Sound};
+ghost use Rattle.lower_layout.specs.Laid.{roomOf};
+ghost use Rattle.lower.specs.Whole.{Begins, FunctionWalked, FunctionPlaced, FunctionsPlaced, Filled, Finished, answerOf, lowerRest, Answered, writtenBy};
 ghost use Rattle.lower.specs.declared.Answer.the-variants as answer;
-use fields::clear;
-use fields::write;
-use flow::Flow;
-use flow::Made;
-use flow::Step;
-use flow::blocks;
+use format::HEAD;
+use format::KIND;
+use format::contract;
+use format::kinds;
 use ir::FunctionId;
-use ir::LocalId;
 use ir::Name;
-use ir::ValueId;
-use names::LoweringError;
-use names::Scopes;
-use names::entries;
-use names::types::parse_ir_type;
+use lower_counters::next_value;
+use lower_flow::MadeLocal;
+use lower_flow::Step;
+use lower_flow::make::init_local;
+use lower_flow::terminate::return_if_open;
+use lower_flow::terminate::switch_to;
+use lower_layout::lay_function;
+use lower_names::Scopes;
+use lower_names::Top;
+use lower_names::held;
+use lower_names::types::parse_ir_type;
+use lower_state::FnCtx;
+use lower_state::LoweringError;
+use lower_state::new_ctx;
+use lower_state::with_counters;
+use lower_stmts::lower_stmts;
 use reader::all_bytes;
 use reader::read;
 use reader::read_u16;
+use sheet::ContractCheck;
+use writer::clear;
+use writer::write;
 
 // The answer: the sheet's length, or why there is none.
 pub enum Answer {
@@ -58,40 +69,34 @@ fn lower_params(
     s: &[u8],
     at: usize,
     n: usize,
-    function: FunctionId,
-    flow: Flow,
+    ctx: FnCtx,
     log: &mut [u8; 32768],
-    types: &mut [usize; 256],
+    tables: &mut [usize; 768],
 ) -> Begun
-    requires { ⌜ (at + 4 * n ≤ length (now s)) × ((n ≤ 16) × (Sound flow × (length (now s) ≤ 32768))) ⌝ }
-    ensures { λ r. ⌜ ((starts stops : List ℕ) → begunIn (function .0) (now (log .exit)) (now (types .exit)) starts stops r ≡ walkParams (paramsFrom (now (s .entry)) at n) [] (ctxIn (function .0) (now (log .entry)) (now (types .entry)) starts stops flow)) ⌝ }
-    ensures { λ r. ⌜ BegunSound r ⌝ }
+    requires { ⌜ (at + 4 * n ≤ length (now s)) × ((n ≤ 16) × (Sound ctx × (length (now s) ≤ 32768))) ⌝ }
+    ensures { λ r. ⌜ Begins (now (s .entry)) at n (now (log .entry)) (now (tables .entry)) ctx (now (log .exit)) (now (tables .exit)) r ⌝ }
 {
-    let mut scopes = entries::none();
-    let mut flow = flow;
+    let mut scopes = held::none();
+    let mut ctx = ctx;
     let mut i = 0;
     while i < n {
-        let place = at + 4 * i;
-        let value = flow.value;
-        let to = flow.to;
-        let ty = parse_ir_type(Name::new(read_u16(s, place + 2)));
-        let made = blocks::init_local(
-            blocks::after(flow, value, to),
-            function,
-            ty,
-            value,
-            log,
-            types,
-        );
+        let place = at + contract::PARAM * i;
+        let ty = parse_ir_type(Name::new(read_u16(s, place + contract::PARAM_TYPE)));
+        let taken = next_value(ctx.counters);
+        let counted = with_counters(ctx, taken.counters);
+        let made = init_local(counted, ty, taken.id, log, tables);
         match made {
-            Made::Next(next, local) => {
-                flow = next;
-                let count = scopes.count;
-                let e = entries::entry(Name::new(read_u16(s, place)), LocalId(local as u16), ty);
-                entries::hold(&mut scopes.entries, count, e);
-                scopes.count = count + 1;
+            MadeLocal::Made(next, local) => {
+                ctx = next;
+                let top = Top {
+                    count: scopes.count,
+                    scope: scopes.scope,
+                };
+                let name = Name::new(read_u16(s, place));
+                held::hold(&mut scopes.entries, top, name, local, ty);
+                scopes.count = top.count + 1;
             }
-            Made::Refused(e) => {
+            MadeLocal::Refused(e) => {
                 return Begun {
                     scopes,
                     step: Step::Refused(e),
@@ -102,24 +107,12 @@ fn lower_params(
     }
     Begun {
         scopes,
-        step: Step::Next(flow),
+        step: Step::Next(ctx),
     }
 }
 
-// A function under way, before its first parameter.
-fn new_flow() -> Flow
-    ensures { λ r. ⌜ ((i : ℕ) (log types starts stops : List ℕ) → ctxIn i log types starts stops r ≡ newFlow i starts stops) ⌝ }
-    ensures { λ r. ⌜ Sound r × (r .local ≡ 0) ⌝ }
-{
-    Flow {
-        value: ValueId(0),
-        to: 0,
-        block: 1,
-        current: 0,
-        local: 0,
-        ended: false,
-    }
-}
+// The depth left of a function's record, and of its statements.
+const FUNCTION_DEPTH: usize = 39;
 
 // The function at a place, into the log.
 fn lower_function(
@@ -127,38 +120,25 @@ fn lower_function(
     at: usize,
     function: FunctionId,
     log: &mut [u8; 32768],
-    types: &mut [usize; 256],
-    starts: &mut [usize; 256],
-    stops: &mut [usize; 256],
+    tables: &mut [usize; 768],
 ) -> Step
-    requires { ⌜ Checked (now s) × Ready Class.function (now s) at 39 ⌝ }
-    ensures { λ r. ⌜ stepIn (function .0) (now (log .exit)) (now (types .exit)) (now (starts .exit)) (now (stops .exit)) r ≡ walkFunction (readContract (now (s .entry))) (function .0) (functionAt (now (s .entry)) at) (now (starts .entry)) (now (stops .entry)) ⌝ }
-    ensures { λ r. ⌜ StepSound r ⌝ }
+    requires { ⌜ ContractPassed (now s) × Ready Class.function (now s) at 39 ⌝ }
+    ensures { λ r. ⌜ FunctionWalked (now (s .entry)) at (function .0) (now (tables .entry)) (now (log .exit)) (now (tables .exit)) r ⌝ }
 {
-    starts[0] = 0;
-    let n = read(s, at + 12, 2);
-    let begun = lower_params(s, at + 14, n, function, new_flow(), log, types);
+    let ctx = new_ctx(function);
+    let first = ctx.current;
+    let ctx = switch_to(ctx, first, tables);
+    let n = read(s, at + contract::PARAM_COUNT, 2);
+    let begun = lower_params(s, at + contract::PARAMS, n, ctx, log, tables);
     let step = begun.step;
     let scopes = begun.scopes;
     match step {
-        Step::Next(flow) => {
-            let from = at + 14 + 4 * n;
+        Step::Next(ctx) => {
+            let from = at + contract::PARAMS + contract::PARAM * n;
             let stop = at + read(s, at, 4);
-            let walked = stmts::lower_stmts(
-                s,
-                from,
-                stop,
-                38,
-                function,
-                scopes,
-                flow,
-                log,
-                types,
-                starts,
-                stops,
-            );
+            let walked = lower_stmts(s, from, stop, FUNCTION_DEPTH - 1, scopes, ctx, log, tables);
             match walked {
-                Step::Next(next) => Step::Next(blocks::return_if_open(next, log, stops)),
+                Step::Next(next) => Step::Next(return_if_open(next, log, tables)),
                 Step::Refused(e) => Step::Refused(e),
             }
         }
@@ -179,60 +159,34 @@ fn place_function(
     at: usize,
     function: FunctionId,
     log: &mut [u8; 32768],
-    types: &mut [usize; 256],
-    starts: &mut [usize; 256],
-    stops: &mut [usize; 256],
+    tables: &mut [usize; 768],
     out: &mut [u8],
     to: usize,
 ) -> Placed
-    requires { ⌜ Checked (now s) × Ready Class.function (now s) at 39 ⌝ }
+    requires { ⌜ ContractPassed (now s) × Ready Class.function (now s) at 39 ⌝ }
     ensures { λ r. ⌜ FunctionPlaced (readContract (now (s .entry))) (function .0) (functionAt (now (s .entry)) at) (now (out .entry)) to (now (out .exit)) r ⌝ }
 {
-    count(starts);
-    count(stops);
-    let step = lower_function(s, at, function, log, types, starts, stops);
+    count(tables);
+    let step = lower_function(s, at, function, log, tables);
     match step {
-        Step::Next(flow) => Placed::To(layout::lay_function(
-            s,
-            at,
-            function,
-            flow,
-            log,
-            types,
-            starts,
-            stops,
-            out,
-            to,
-        )),
+        Step::Next(ctx) => Placed::To(lay_function(s, at, function, ctx, log, tables, out, to)),
         Step::Refused(e) => Placed::Refused(e),
     }
 }
 
 // All functions, each behind the last.
 fn place_functions(s: &[u8], out: &mut [u8]) -> Placed
-    requires { ⌜ Checked (now s) ⌝ }
+    requires { ⌜ ContractPassed (now s) ⌝ }
     ensures { λ r. ⌜ FunctionsPlaced (readContract (now (s .entry))) (now (out .entry)) (now (out .exit)) r ⌝ }
 {
     let mut log = [0u8; 32768];
-    let mut types = [0usize; 256];
-    let mut starts = [0usize; 256];
-    let mut stops = [0usize; 256];
-    let mut to = 6;
+    let mut tables = [0usize; 768];
+    let mut to = HEAD;
     let mut i: u16 = 0;
-    let mut at = 8;
+    let mut at = contract::CHILDREN;
     while at < s.len() {
-        if read(s, at + 4, 2) == 4 {
-            let placed = place_function(
-                s,
-                at,
-                FunctionId(i),
-                &mut log,
-                &mut types,
-                &mut starts,
-                &mut stops,
-                out,
-                to,
-            );
+        if read(s, at + KIND, 2) == kinds::FUNCTION {
+            let placed = place_function(s, at, FunctionId(i), &mut log, &mut tables, out, to);
             match placed {
                 Placed::To(next) => {
                     to = next;
@@ -253,23 +207,23 @@ fn finish(out: &mut [u8], to: usize) -> Answer
     requires { ⌜ (to < 6 → roomOf (length (now out)) < to) ⌝ }
     ensures { λ r. ⌜ ((before body : List ℕ) → Filled body before 6 (now (out .entry)) to → Finished body (length before) (now (out .exit)) r) ⌝ }
 {
-    if layout::room(out) < to {
+    if lower_layout::room(out) < to {
         return Answer::NoRoom;
     }
     write(out, 0, 4, to);
-    write(out, 4, 2, 50);
+    write(out, KIND, 2, kinds::PROGRAM);
     Answer::Accepted(to)
 }
 
 // A contract sheet that passed its check.
 fn lower_contract(s: &[u8], out: &mut [u8]) -> Answer
-    requires { ⌜ Checked (now s) ⌝ }
+    requires { ⌜ ContractPassed (now s) ⌝ }
     ensures { λ r. ⌜ Answered (lowerRest (readContract (now (s .entry))) (length (now (out .entry)))) (length (now (out .entry))) (now (out .exit)) r ⌝ }
 {
     let placed = place_functions(s, out);
     match placed {
         Placed::To(to) => {
-            let end = layout::lay_names(s, out, to);
+            let end = lower_layout::lay_names(s, out, to);
             finish(out, end)
         }
         Placed::Refused(e) => Answer::Refused(e),
@@ -280,18 +234,12 @@ fn lower_contract(s: &[u8], out: &mut [u8]) -> Answer
 fn lower_sheet(sheet: &[u8], out: &mut [u8]) -> Answer
     ensures { λ r. ⌜ Answered (lowerSheet (now (sheet .entry)) (length (now (out .entry)))) (length (now (out .entry))) (now (out .exit)) r ⌝ }
 {
-    if 32768 < sheet.len() {
-        return Answer::TooLong;
+    match sheet::check_contract(sheet) {
+        ContractCheck::Passed => lower_contract(sheet, out),
+        ContractCheck::TooLong => Answer::TooLong,
+        ContractCheck::Malformed(place) => Answer::Malformed(place),
+        ContractCheck::OverLimit(place) => Answer::OverLimit(place),
     }
-    let form = sheet::contract_form(sheet);
-    if let sheet::Form::Bad(place) = form {
-        return Answer::Malformed(place);
-    }
-    let limits = sheet::contract_limits(sheet);
-    if let sheet::Form::Bad(place) = limits {
-        return Answer::OverLimit(place);
-    }
-    lower_contract(sheet, out)
 }
 
 // Where the zeros start.

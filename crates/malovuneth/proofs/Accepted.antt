@@ -7,7 +7,7 @@ use lib.Dec.{lit<}
 use lib.ListN.{getD}
 use Rattle.definitions.specs.Lower.{LoweringError}
 use Rattle.definitions.specs.Answers.{lengthNumbers, lowerRefusal, padded}
-use Rattle.names.specs.Answers.{errorOf}
+use Rattle.lower_state.specs.Errors.{errorOf}
 use Rattle.lower.specs.Whole.{answerOf}
 use Rattle.lower.specs.declared.Answer.{Answer}
 use Rattle.lower.specs.declared.Answer.the-variants as answer

@@ -9,7 +9,7 @@ use Rattle.definitions.specs.Fields.{le}
 use Rattle.definitions.specs.Grammar.{Pattern}
 use Rattle.definitions.specs.Records.{pick, Form, Good, Bad, andThen, mayEnd, Next, nothing, starts, startIf, startAt, pastAll, checkRest, recordsFrom, checkRecords}
 use Rattle.definitions.proofs.Sheets.Passed.{Ends, all-past, bound-enough}
-use Rattle.sheet.specs.Codes.{placeOf, fieldsOf, patternOf, coded, Leaves, RowIs, kindAt, classIn, fixedIn, childrenIn}
+use Rattle.sheet.specs.Codes.{placeOf, fieldsIn, patternOf, coded, Leaves, RowIs, kindAt, classIn, fixedIn, childrenIn}
 use Rattle.sheet.specs.Forms.{formOf}
 use Rattle.sheet.specs.declared.Form as declared
 use Rattle.sheet.specs.declared.Form.the-variants as answer
@@ -63,11 +63,11 @@ module _ {s : List ℕ} {at end q place left : ℕ} (g : Going s at end q place 
 
   -- a record is to come: k is its kind, x its row, and n what it leaves of the pattern
   module _ (h : place < end) {k x n : ℕ} (ek : k ≡ kindAt s place end) (r : RowIs k x) (v : Leaves left (classIn x) n) where
-    pub not-there : n ≡ 255 → formOf (answer.Bad place) ≡ checkRecords s at end (patternOf q)
+    pub not-there : n ≡ 16 → formOf (answer.Bad place) ≡ checkRecords s at end (patternOf q)
     unfolding formOf
     not-there e = rw (g .same) (step-no s place end (patternOf left) h (not-allowed s place end left ek r v e))
 
-    pub there : (n ≡ 255 → ⊥) → Begun s place end left x n
+    pub there : (n ≡ 16 → ⊥) → Begun s place end left x n
     there a = begun s place end left ek r v a (g .high)
 
 -- a record with valid fields: it is l bytes long, and b is the place after its fields
@@ -81,7 +81,7 @@ pub record Entered (s : List ℕ) (at end q place x n l b : ℕ) : Type 0 where
   pub is : checkRecords s at end (patternOf q) ≡ andThen (checkRecords s b (place + l) (patternOf (childrenIn x))) (checkRecords s (place + l) end (patternOf n))
 
 module _ {s : List ℕ} {at end q place left x n l : ℕ} (g : Going s at end q place left) (h : place < end) (d : Begun s place end left x n) (el : l ≡ le 4 s place) (b : ℕ)
-    (eb : placeOf b ≡ pastAll (fieldsOf (fixedIn x)) s (place + l) (place + 6)) where
+    (eb : placeOf b ≡ pastAll (fieldsIn x) s (place + l) (place + 6)) where
   starting : startAt s place end (patternOf left) ≡ startIf (placeOf b) (place + l) (patternOf (childrenIn x)) (Next.left (patternOf n))
   starting = rw (eb, el) (d .is)
 
@@ -93,7 +93,7 @@ module _ {s : List ℕ} {at end q place left x n l : ℕ} (g : Going s at end q 
   unfolding startIf placeOf
   enters z =
       let m : place + l ≤ end = rw el (d .most) in
-      let f : Ends (fieldsOf (fixedIn x)) s (place + l) (place + 6) b = all-past (fieldsOf (fixedIn x)) s (place + l) (place + 6) b (rw (ne-eqb b 0 z) at (sym eb)) (rw el (d .least)) in
+      let f : Ends (fieldsIn x) s (place + l) (place + 6) b = all-past (fieldsIn x) s (place + l) (place + 6) b (rw (ne-eqb b 0 z) at (sym eb)) (rw el (d .least)) in
       record {
         low = g .low;
         body = f .low;

@@ -7,8 +7,8 @@ use Rattle.definitions.specs.Fields.{le}
 use Rattle.definitions.specs.Records.{readRecords}
 use Rattle.definitions.specs.ContractSheet.{countTrees}
 use Rattle.definitions.proofs.Sheets.Passed.{read-end}
-use Rattle.sheet.specs.Passed.{Passed, stopOf, bodyOf}
-use Rattle.sheet.proofs.Nodes.{Node, opens, in-order}
+use Rattle.sheet.specs.Passed.{Node, Passed, stopOf, bodyOf}
+use Rattle.sheet.proofs.Nodes.{opens, in-order}
 
 -- n records stand before `place`
 pub record Counting (s : List ℕ) (at end place n : ℕ) : Type 0 where

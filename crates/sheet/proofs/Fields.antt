@@ -12,7 +12,7 @@ use Rattle.definitions.specs.Fields.{le}
 use Rattle.definitions.specs.Grammar.{Entry, upTo, number, irType, valueAndType, nameAndType, Field, single, counted, listed}
 use Rattle.definitions.specs.Records.{pick, sizeOf, okType, okItem, okItems, fieldEnd, okField, past}
 use Rattle.definitions.proofs.Results.{by-test}
-use Rattle.sheet.specs.Codes.{placeOf, fields, fieldIn, fieldOf, entryOf}
+use Rattle.sheet.specs.Codes.{placeOf, fields, fieldIn, fieldOf, itemForm}
 use Rattle.sheet.proofs.Arms.{Others, passed-over}
 
 -- a type
@@ -34,60 +34,60 @@ abbrev OtherEntry : ℕ → Type 0
 OtherEntry d = ((Unit {0} × (d ≡ 10 → ⊥)) × (d ≡ 11 → ⊥)) × (d ≡ 13 → ⊥)
 
 module _ {d : ℕ} where
-  is-param : d ≡ 10 → entryOf d ≡ valueAndType
-  unfolding entryOf
+  is-param : d ≡ 10 → itemForm d ≡ valueAndType
+  unfolding itemForm
   is-param e = rw e
 
-  is-type : d ≡ 11 → entryOf d ≡ irType
-  unfolding entryOf
+  is-type : d ≡ 11 → itemForm d ≡ irType
+  unfolding itemForm
   is-type e = rw e
 
-  is-name : d ≡ 13 → entryOf d ≡ upTo 65534
-  unfolding entryOf
+  is-name : d ≡ 13 → itemForm d ≡ upTo 65534
+  unfolding itemForm
   is-name e = rw e
 
-  is-pair : OtherEntry d → entryOf d ≡ nameAndType
-  unfolding entryOf
+  is-pair : OtherEntry d → itemForm d ≡ nameAndType
+  unfolding itemForm
   is-pair o = rw (ne-eqb d 10 (o .0 .0 .1), ne-eqb d 11 (o .0 .1), ne-eqb d 13 (o .1))
 
-  pub param-size : d ≡ 10 → 6 ≡ sizeOf (entryOf d)
+  pub param-size : d ≡ 10 → 6 ≡ sizeOf (itemForm d)
   unfolding sizeOf
   param-size e = rw (is-param e)
 
-  pub type-size : d ≡ 11 → 4 ≡ sizeOf (entryOf d)
+  pub type-size : d ≡ 11 → 4 ≡ sizeOf (itemForm d)
   unfolding sizeOf
   type-size e = rw (is-type e)
 
-  pub name-size : d ≡ 13 → 2 ≡ sizeOf (entryOf d)
+  pub name-size : d ≡ 13 → 2 ≡ sizeOf (itemForm d)
   unfolding sizeOf
   name-size e = rw (is-name e)
 
-  pub pair-size : OtherEntry d → 4 ≡ sizeOf (entryOf d)
+  pub pair-size : OtherEntry d → 4 ≡ sizeOf (itemForm d)
   unfolding sizeOf
   pair-size o = rw (is-pair o)
 
 module _ (s : List ℕ) (at d : ℕ) where
-  pub param-ok : d ≡ 10 → {a : Bool} → a ≡ leb (le 2 s at) 65534 → {b : Bool} → b ≡ okType (le 2 s (at + 2)) (le 2 s (at + 2 + 2)) → a ≡ true → b ≡ okItem (entryOf d) s at
+  pub param-ok : d ≡ 10 → {a : Bool} → a ≡ leb (le 2 s at) 65534 → {b : Bool} → b ≡ okType (le 2 s (at + 2)) (le 2 s (at + 2 + 2)) → a ≡ true → b ≡ okItem (itemForm d) s at
   unfolding okItem
   param-ok e p q y = rw (is-param e, ← p, y) q
 
-  pub param-bad : d ≡ 10 → {a : Bool} → a ≡ leb (le 2 s at) 65534 → a ≡ false → a ≡ okItem (entryOf d) s at
+  pub param-bad : d ≡ 10 → {a : Bool} → a ≡ leb (le 2 s at) 65534 → a ≡ false → a ≡ okItem (itemForm d) s at
   unfolding okItem
   param-bad e p y = rw (is-param e, ← p, y)
 
-  pub type-ok : d ≡ 11 → {a : Bool} → a ≡ okType (le 2 s at) (le 2 s (at + 2)) → a ≡ okItem (entryOf d) s at
+  pub type-ok : d ≡ 11 → {a : Bool} → a ≡ okType (le 2 s at) (le 2 s (at + 2)) → a ≡ okItem (itemForm d) s at
   unfolding okItem
   type-ok e p = rw (is-type e) p
 
-  pub name-ok : d ≡ 13 → {a : Bool} → a ≡ leb (le 2 s at) 65534 → a ≡ okItem (entryOf d) s at
+  pub name-ok : d ≡ 13 → {a : Bool} → a ≡ leb (le 2 s at) 65534 → a ≡ okItem (itemForm d) s at
   unfolding okItem
   name-ok e p = rw (is-name e) p
 
-  pub pair-ok : OtherEntry d → {a : Bool} → a ≡ leb (le 2 s at) 65534 → {b : Bool} → b ≡ leb (le 2 s (at + 2)) 65534 → a ≡ true → b ≡ okItem (entryOf d) s at
+  pub pair-ok : OtherEntry d → {a : Bool} → a ≡ leb (le 2 s at) 65534 → {b : Bool} → b ≡ leb (le 2 s (at + 2)) 65534 → a ≡ true → b ≡ okItem (itemForm d) s at
   unfolding okItem
   pair-ok o p q y = rw (is-pair o, ← p, y) q
 
-  pub pair-bad : OtherEntry d → {a : Bool} → a ≡ leb (le 2 s at) 65534 → a ≡ false → a ≡ okItem (entryOf d) s at
+  pub pair-bad : OtherEntry d → {a : Bool} → a ≡ leb (le 2 s at) 65534 → a ≡ false → a ≡ okItem (itemForm d) s at
   unfolding okItem
   pair-bad o p y = rw (is-pair o, ← p, y)
 

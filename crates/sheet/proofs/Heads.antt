@@ -1,6 +1,6 @@
 -- The record that starts at a place: its kind, its row, and what it leaves of the pattern around it. Assumes nothing.
 use mathlib.Core.Path.{_≡_, refl, sym, ap, _∙_}
-use mathlib.Core.Bool.{Bool, true, false}
+use mathlib.Core.Bool.{Bool, true, false, _&&_}
 use mathlib.Core.List.{List}
 use Prim.Native.Nat.{ℕ, _+_, _-_, _<_, _≤_}
 use native.Mathlib.Omega.{arith}
@@ -10,7 +10,7 @@ use Rattle.definitions.specs.Fields.{le}
 use Rattle.definitions.specs.Grammar.{Pattern, rows}
 use Rattle.definitions.specs.Records.{pick, noRow, row, rowIn, refused, left, after, nothing, startIf, startRow, startAt, pastAll}
 use Rattle.definitions.proofs.Sheets.Passed.{both-true}
-use Rattle.sheet.specs.Codes.{fieldsOf, classOf, patternOf, classCoded, coded, nextOf, afterClass, Leaves, bodyCoded, rowOf, rowCoded, RowIs, kindAt, classIn, fixedIn, childrenIn}
+use Rattle.sheet.specs.Codes.{fieldsIn, classOf, patternOf, classCoded, coded, nextOf, afterClass, Leaves, bodyCoded, rowOf, rowCoded, RowIs, kindAt, classIn, fixedIn, childrenIn}
 use Rattle.sheet.proofs.Patterns.{class-range}
 
 -- KINDS: the code's ways through `kindAt`
@@ -63,7 +63,7 @@ module _ (s : List ℕ) (at end : ℕ) where
 pub record Digits (x : ℕ) : Type 0 where
   pub class : classCoded (classIn x) ≡ true
   pub children : coded (childrenIn x) ≡ true
-  pub body : pick (eqb (childrenIn x) 0) true (bodyCoded (fixedIn x)) ≡ true
+  pub body : pick (eqb (childrenIn x) 0) true (leb (classIn x) 12 && bodyCoded (fixedIn x)) ≡ true
 
 pub digits : {k x : ℕ} → RowIs k x → (x ≡ 0 → ⊥) → Digits x
 unfolding rowCoded
@@ -86,7 +86,7 @@ pub record Begun (s : List ℕ) (at end q x n : ℕ) : Type 0 where
   pub children : coded (childrenIn x) ≡ true
   pub rest : coded n ≡ true
   pub is : startAt s at end (patternOf q)
-      ≡ startIf (pastAll (fieldsOf (fixedIn x)) s (at + le 4 s at) (at + 6)) (at + le 4 s at) (patternOf (childrenIn x)) (left (patternOf n))
+      ≡ startIf (pastAll (fieldsIn x) s (at + le 4 s at) (at + 6)) (at + le 4 s at) (patternOf (childrenIn x)) (left (patternOf n))
 
 module _ (s : List ℕ) (at end q : ℕ) {k x n : ℕ} (ek : k ≡ kindAt s at end) (r : RowIs k x) (v : Leaves q (classIn x) n) where
   by-row : startAt s at end (patternOf q) ≡ startRow s at (at + le 4 s at) (patternOf q) (rowOf x)
@@ -94,7 +94,7 @@ module _ (s : List ℕ) (at end q : ℕ) {k x n : ℕ} (ek : k ≡ kindAt s at e
 
   -- a row that is there
   row-there : (x ≡ 0 → ⊥) → startAt s at end (patternOf q)
-      ≡ startIf (pastAll (fieldsOf (fixedIn x)) s (at + le 4 s at) (at + 6)) (at + le 4 s at) (patternOf (childrenIn x)) (nextOf n)
+      ≡ startIf (pastAll (fieldsIn x) s (at + le 4 s at) (at + 6)) (at + le 4 s at) (patternOf (childrenIn x)) (nextOf n)
   unfolding rowOf startRow afterClass
   row-there z =
       let l : 1 ≤ classIn x = class-range (classIn x) (digits r z .class) .0 in
@@ -105,7 +105,7 @@ module _ (s : List ℕ) (at end q : ℕ) {k x n : ℕ} (ek : k ≡ kindAt s at e
   unfolding rowOf startRow
   row-absent z = rw (by-row, z)
 
-  pub not-allowed : n ≡ 255 → nothing ≡ startAt s at end (patternOf q)
+  pub not-allowed : n ≡ 16 → nothing ≡ startAt s at end (patternOf q)
   unfolding nextOf startIf
   not-allowed e = go (eqb x 0) refl
     where
@@ -113,10 +113,10 @@ module _ (s : List ℕ) (at end q : ℕ) {k x n : ℕ} (ek : k ≡ kindAt s at e
       go true y = sym (row-absent (eqb-true x 0 y))
       go false y = rw (row-there (eqb-false x 0 y), e)
 
-  module _ (a : n ≡ 255 → ⊥) where
+  module _ (a : n ≡ 16 → ⊥) where
     allowed : nextOf n ≡ left (patternOf n)
     unfolding nextOf
-    allowed = rw (ne-eqb n 255 a)
+    allowed = rw (ne-eqb n 16 a)
 
     there : x ≡ 0 → ⊥
     unfolding afterClass
@@ -125,7 +125,7 @@ module _ (s : List ℕ) (at end q : ℕ) {k x n : ℕ} (ek : k ≡ kindAt s at e
     kind-there : kindAt s at end ≡ 0 → ⊥
     unfolding rowOf rowIn rows
     kind-there z =
-        let e : row (classOf (classIn x)) (fieldsOf (fixedIn x)) (patternOf (childrenIn x)) ≡ noRow = rw (ne-eqb x 0 there, ek, z) at (r .is) in
+        let e : row (classOf (classIn x)) (fieldsIn x) (patternOf (childrenIn x)) ≡ noRow = rw (ne-eqb x 0 there, ek, z) at (r .is) in
         let y : _≡_ {A = ℕ} 0 1 = cc in
         omega arith
 

@@ -2,11 +2,13 @@
 mod Arms
 mod Bodies
 mod Checks
+pub mod Contracts
 mod Counts
 mod Digits
 mod Fields
 mod Heads
 pub mod Nodes
+mod Origins
 mod Patterns
 mod Rows
 mod Widths

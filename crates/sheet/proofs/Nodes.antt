@@ -4,23 +4,15 @@ use mathlib.Core.List.{List}
 use Prim.Native.Nat.{ℕ, _+_, _<_, _≤_}
 use native.Mathlib.Omega.{arith}
 use Rattle.definitions.specs.Grammar.{Class, Field, Pattern, rows}
-use Rattle.definitions.specs.Records.{rowIn, rowFields, fieldsEnd, readValues, node, tcons, readRecords}
-use Rattle.definitions.proofs.Sheets.Passed.{Head, Fine, ends, goes, read-step}
-use Rattle.sheet.specs.Passed.{Passed, kindOf, stopOf, bodyOf, valuesOf, childrenOf}
-
-pub record Node (s : List ℕ) (at end : ℕ) : Type 0 where
-  pub class : Class
-  pub fields : List Field
-  pub pattern : Pattern
-  pub head : Head s at end class fields pattern (bodyOf s at) (stopOf s at)
-  pub kids : Fine s (bodyOf s at) (stopOf s at) pattern
-  pub rest : Passed s (stopOf s at) end
-  pub is : readRecords s at end ≡ tcons (node at (kindOf s at) (valuesOf s at) (childrenOf s at)) (readRecords s (stopOf s at) end)
+use Rattle.definitions.specs.Records.{rowIn, rowFields, fieldsEnd, readValues}
+use Rattle.definitions.specs.Fine.{Head, Fine, ends, goes}
+use Rattle.definitions.proofs.Sheets.Passed.{read-step}
+use Rattle.sheet.specs.Passed.{Passed, Node, recordKind, stopOf, bodyOf, valuesOf, childrenOf}
 
 unfoldable pub node-of : {c : Class} {fs : List Field} {p r : Pattern} {s : List ℕ} {at end b stop : ℕ} → Head s at end c fs p b stop → Fine s b stop p → Fine s stop end r → Node s at end
 unfolding bodyOf valuesOf rowFields
 node-of {c} {fs} {p} {r} {s} {at} {end} {b} {stop} hd kids rest =
-    let f : rowFields (rowIn (kindOf s at) rows) ≡ fs = ap rowFields (hd .is) in
+    let f : rowFields (rowIn (recordKind s at) rows) ≡ fs = ap rowFields (hd .is) in
     let e : stop ≡ stopOf s at = hd .stop-is in
     let g : b ≡ bodyOf s at = rw (f, ← e) (hd .body-is) in
     let v : readValues fs s stop (at + 6) ≡ valuesOf s at = rw (f, ← e) in
@@ -50,16 +42,16 @@ in-order {s} {at} {end} p = go (p .fine)
 
 -- BY KIND: the fields of the row of a kind say where the children start, and what the fields are
 module _ {s : List ℕ} {at end : ℕ} (n : Node s at end) where
-  fields-of : {j : ℕ} → kindOf s at ≡ j → n .fields ≡ rowFields (rowIn j rows)
+  fields-of : {j : ℕ} → recordKind s at ≡ j → n .fields ≡ rowFields (rowIn j rows)
   unfolding rowFields
   fields-of e = sym (ap rowFields (n .head .is)) ∙ ap (λ (i : ℕ). rowFields (rowIn i rows)) e
 
-  pub head-of : {j : ℕ} → kindOf s at ≡ j → Head s at end (n .class) (rowFields (rowIn j rows)) (n .pattern) (bodyOf s at) (stopOf s at)
+  pub head-of : {j : ℕ} → recordKind s at ≡ j → Head s at end (n .class) (rowFields (rowIn j rows)) (n .pattern) (bodyOf s at) (stopOf s at)
   head-of e = rw (fields-of e) at (n .head)
 
-  pub children-of : {j : ℕ} → kindOf s at ≡ j → bodyOf s at ≡ fieldsEnd (rowFields (rowIn j rows)) s (stopOf s at) (at + 6)
+  pub children-of : {j : ℕ} → recordKind s at ≡ j → bodyOf s at ≡ fieldsEnd (rowFields (rowIn j rows)) s (stopOf s at) (at + 6)
   children-of e = head-of e .body-is
 
-  pub values-of : {j : ℕ} → kindOf s at ≡ j → valuesOf s at ≡ readValues (rowFields (rowIn j rows)) s (stopOf s at) (at + 6)
+  pub values-of : {j : ℕ} → recordKind s at ≡ j → valuesOf s at ≡ readValues (rowFields (rowIn j rows)) s (stopOf s at) (at + 6)
   unfolding valuesOf
   values-of e = ap (λ (i : ℕ). readValues (rowFields (rowIn i rows)) s (stopOf s at) (at + 6)) e

@@ -129,16 +129,16 @@ first : (x : ℕ) → coded x ≡ true → (x ≡ 0 → ⊥) → First x
 unfolding codedFrom patternFrom
 first x e z =
     let q : eqb x 0 ≡ false = ne-eqb x 0 z in
-    let b = both-true (classCoded (x % 256 % 16)) (codedFrom 2 (x / 256)) (rw q at e) in
-    record { class = b .0; rest = wider 2 (x / 256) (b .1); is = rw q (ap (child (x % 256)) (sym (same 2 (x / 256) (b .1)))) }
+    let b = both-true (classCoded (x % 256 % 16)) (codedFrom 4 (x / 256)) (rw q at e) in
+    record { class = b .0; rest = wider 4 (x / 256) (b .1); is = rw q (ap (child (x % 256)) (sym (same 4 (x / 256) (b .1)))) }
 
 -- a code is not the mark of a refusal
 left-of : (x : ℕ) → coded x ≡ true → nextOf x ≡ left (patternOf x)
 unfolding nextOf codedFrom classCoded
-left-of x e = go (eqb x 255) refl
+left-of x e = go (eqb x 16) refl
   where
-    go : (t : Bool) → eqb x 255 ≡ t → pick t refused (left (patternOf x)) ≡ left (patternOf x)
-    go true q = absurd (true-false (sym (rw (eqb-true x 255 q) at e)))
+    go : (t : Bool) → eqb x 16 ≡ t → pick t refused (left (patternOf x)) ≡ left (patternOf x)
+    go true q = absurd (true-false (sym (rw (eqb-true x 16 q) at e)))
     go false q = refl
 
 -- THE CODE'S WAYS: what is left of a pattern, x, is all that a record of the class can meet
@@ -147,7 +147,7 @@ pub record Seeking (pattern class x : ℕ) : Type 0 where
   pub same : afterClass (patternOf pattern) class ≡ afterClass (patternOf x) class
 
 module _ {pattern class x : ℕ} (s : Seeking pattern class x) where
-  pub over : x ≡ 0 → Leaves pattern class 255
+  pub over : x ≡ 0 → Leaves pattern class 16
   unfolding patternFrom afterClass after nextOf
   over z = record { is = sym (s .same ∙ rw z (go (eqb class 0))); ok = λ w. absurd (w refl) }
     where
@@ -165,7 +165,7 @@ module _ {pattern class x : ℕ} (s : Seeking pattern class x) where
     pub leaves : x % 256 % 16 ≡ class → (x % 256 / 16 ≡ 3 → ⊥) → Leaves pattern class (x / 256)
     leaves e m = record { is = left-of (x / 256) (f .rest) ∙ rw (s .same, f .is) (sym (hit (x % 256) class (patternOf (x / 256)) (f .class) e m)); ok = λ w. f .rest }
 
-    pub refuses : (x % 256 % 16 ≡ class → ⊥) → class ≤ 14 → x % 256 / 16 ≡ 1 → Leaves pattern class 255
+    pub refuses : (x % 256 % 16 ≡ class → ⊥) → class ≤ 14 → x % 256 / 16 ≡ 1 → Leaves pattern class 16
     unfolding nextOf
     refuses e l m = record { is = rw (s .same, f .is) (sym (miss-one (x % 256) class (patternOf (x / 256)) (f .class) e l m)); ok = λ w. absurd (w refl) }
 

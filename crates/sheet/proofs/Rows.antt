@@ -12,13 +12,13 @@ use Rattle.sheet.proofs.Arms.{Others, passed-over}
 pub arm : {k j x : ℕ} → k ≡ j → rowOf x ≡ rowIn j rows → rowCoded x ≡ true → RowIs k x
 arm {x = x} e a b = subst⁻¹ (λ (i : ℕ). RowIs i x) e (record { is = a; ok = b })
 
-abbrev pub kindOf : Line → ℕ
-kindOf (kind j c fs p) = j
+abbrev pub lineKind : Line → ℕ
+lineKind (kind j c fs p) = j
 
-skips : (k : ℕ) (l : Line) (ls : List Line) → (k ≡ kindOf l → ⊥) → rowIn k (l ∷ ls) ≡ rowIn k ls
+skips : (k : ℕ) (l : Line) (ls : List Line) → (k ≡ lineKind l → ⊥) → rowIn k (l ∷ ls) ≡ rowIn k ls
 unfolding rowIn
 skips k (kind j c fs p) ls z = rw (ne-eqb k j z)
 
-pub none : {k : ℕ} → Others kindOf k (Unit {0}) rows → RowIs k 0
+pub none : {k : ℕ} → Others lineKind k (Unit {0}) rows → RowIs k 0
 unfolding rowOf rowCoded rowIn
-none {k} o = record { is = sym (passed-over kindOf k (rowIn k) (skips k) (Unit {0}) rows o); ok = refl }
+none {k} o = record { is = sym (passed-over lineKind k (rowIn k) (skips k) (Unit {0}) rows o); ok = refl }

@@ -14,8 +14,8 @@ use Rattle.definitions.specs.ContractSheet.{countTrees}
 use Rattle.definitions.proofs.Sheets.Reads.{items-count}
 use Rattle.definitions.proofs.Sheets.Singles.{after, starts}
 use Rattle.sheet.specs.Limits.{tooWide}
-use Rattle.sheet.specs.Passed.{Passed, Standing, kindOf, stopOf, bodyOf, valuesOf, childrenOf}
-use Rattle.sheet.proofs.Nodes.{Node, opens, head-of, children-of, values-of}
+use Rattle.sheet.specs.Passed.{Node, Passed, Standing, recordKind, stopOf, bodyOf, valuesOf, childrenOf}
+use Rattle.sheet.proofs.Nodes.{opens, head-of, children-of, values-of}
 
 abbrev Others : ℕ → Type 0
 Others k = (((Unit {0} × (k ≡ 3 → ⊥)) × (k ≡ 4 → ⊥)) × (k ≡ 19 → ⊥)) × (k ≡ 37 → ⊥)
@@ -30,7 +30,7 @@ module _ {s : List ℕ} {at stop k : ℕ} (w : Standing s at stop k) where
   stop-inside : stop ≤ length s
   stop-inside = let h : stopOf s at ≤ w .end = n .head .high in let i : w .end ≤ length s = w .inside in omega (arith, es)
 
-  is : {j : ℕ} → k ≡ j → kindOf s at ≡ j
+  is : {j : ℕ} → k ≡ j → recordKind s at ≡ j
   is e = sym (w .kind-is) ∙ e
 
   -- a struct

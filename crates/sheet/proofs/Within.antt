@@ -14,12 +14,12 @@ use Rattle.definitions.specs.ContractSheet.{countTrees, Counts, noneBefore, Mea
 use Rattle.definitions.proofs.Results.{by-test}
 use Rattle.definitions.proofs.Contracts.Limits.{measured}
 use Rattle.definitions.proofs.Sheets.Passed.{read-end}
-use Rattle.sheet.specs.Forms.{formOf}
+use Rattle.sheet.specs.Forms.{limitsOf}
 use Rattle.sheet.specs.Limits.{tooMany, tooWide}
-use Rattle.sheet.specs.Passed.{Passed, Standing, kindOf, stopOf, bodyOf, valuesOf, childrenOf}
-use Rattle.sheet.specs.declared.Form as declared
-use Rattle.sheet.specs.declared.Form.the-variants as answer
-use Rattle.sheet.proofs.Nodes.{Node, opens, in-order}
+use Rattle.sheet.specs.Passed.{Node, Passed, Standing, recordKind, stopOf, bodyOf, valuesOf, childrenOf}
+use Rattle.sheet.specs.declared.LimitCheck as declared
+use Rattle.sheet.specs.declared.LimitCheck.the-variants as answer
+use Rattle.sheet.proofs.Nodes.{opens, in-order}
 
 -- a storage fields, b structs and c functions
 abbrev counts : ℕ → ℕ → ℕ → Counts
@@ -67,13 +67,13 @@ pub record Clear (s : List ℕ) (at end depth place l k a b c : ℕ) : Type 0 wh
       ≡ andThen (limitTrees (readRecords s (bodyOf s place) (place + l)) (depth + 1) noneBefore) (limitTrees (readRecords s (place + l) end) depth (counts (a + pick (eqb k 2) 1 0) (b + pick (eqb k 3) 1 0) (c + pick (eqb k 4) 1 0)))
 
 module _ {s : List ℕ} {at end depth place a b c : ℕ} (g : Limiting s at end depth place a b c) where
-  pub over-now : end ≤ place → formOf answer.Good ≡ limitTrees (readRecords s at end) depth noneBefore
-  unfolding formOf limitTree
+  pub over-now : end ≤ place → limitsOf answer.Within ≡ limitTrees (readRecords s at end) depth noneBefore
+  unfolding limitsOf limitTree
   over-now h = let z : end ≡ place = omega (arith, in-order (g .passed)) in rw (g .same, z, read-end s place)
 
   -- the next record
   module _ (h : place < end) where
-    pub stands : end ≤ length s → {l k : ℕ} → l ≡ le 4 s place → k ≡ kindOf s place → Standing s place (place + l) k
+    pub stands : end ≤ length s → {l k : ℕ} → l ≡ le 4 s place → k ≡ recordKind s place → Standing s place (place + l) k
     stands i e f = record { end = end; passed = g .passed; starts = h; inside = i; stop-is = rw e; kind-is = f }
 
     n : Node s place end
@@ -85,31 +85,34 @@ module _ {s : List ℕ} {at end depth place a b c : ℕ} (g : Limiting s at end 
         let j : bodyOf s place ≤ stopOf s place = n .head .mid in
         (omega arith, n .head .high)
 
-    opened : {k : ℕ} → k ≡ kindOf s place → limitTrees (readRecords s at end) depth noneBefore
+    opened : {k : ℕ} → k ≡ recordKind s place → limitTrees (readRecords s at end) depth noneBefore
         ≡ andThen (pick (leb 41 depth || (tooMany k a b c || tooWide k (valuesOf s place) (countTrees (childrenOf s place)))) (Bad place) (limitTrees (childrenOf s place) (suc depth) noneBefore))
         (limitTrees (readRecords s (stopOf s place) end) depth (counts (a + pick (eqb k 2) 1 0) (b + pick (eqb k 3) 1 0) (c + pick (eqb k 4) 1 0)))
     unfolding limitTree
-    opened e = rw (g .same, n .is, split (measured (kindOf s place) (valuesOf s place) (childrenOf s place) depth (counts a b c)), e)
+    opened e = rw (g .same, n .is, split (measured (recordKind s place) (valuesOf s place) (childrenOf s place) depth (counts a b c)), e)
 
     -- k is its kind: it is over, or it is not
-    module _ {k : ℕ} (e : k ≡ kindOf s place) where
-      pub too-deep : 41 ≤ depth → formOf (answer.Bad place) ≡ limitTrees (readRecords s at end) depth noneBefore
-      unfolding formOf andThen
+    module _ {k : ℕ} (e : k ≡ recordKind s place) where
+      pub too-deep : 41 ≤ depth → limitsOf (answer.Over place) ≡ limitTrees (readRecords s at end) depth noneBefore
+      unfolding limitsOf andThen
       too-deep d = rw (opened e, le-leb 41 depth d)
 
-      module _ (d : depth < 41) {x : Bool} (p : x ≡ tooMany k a b c) where
-        pub one-too-many : x ≡ true → formOf (answer.Bad place) ≡ limitTrees (readRecords s at end) depth noneBefore
-        unfolding formOf andThen
-        one-too-many q = rw (opened e, lt-leb 41 depth d, ← p, q)
+      module _ (d : depth ≤ 40) {x : Bool} (p : x ≡ tooMany k a b c) where
+        shallow : leb 41 depth ≡ false
+        shallow = lt-leb 41 depth (omega arith)
+
+        pub one-too-many : x ≡ true → limitsOf (answer.Over place) ≡ limitTrees (readRecords s at end) depth noneBefore
+        unfolding limitsOf andThen
+        one-too-many q = rw (opened e, shallow, ← p, q)
 
         module _ (q : x ≡ false) {y : Bool} (r : y ≡ tooWide k (valuesOf s place) (countTrees (childrenOf s place))) where
-          pub too-wide : y ≡ true → formOf (answer.Bad place) ≡ limitTrees (readRecords s at end) depth noneBefore
-          unfolding formOf andThen
-          too-wide t = rw (opened e, lt-leb 41 depth d, ← p, q, ← r, t)
+          pub too-wide : y ≡ true → limitsOf (answer.Over place) ≡ limitTrees (readRecords s at end) depth noneBefore
+          unfolding limitsOf andThen
+          too-wide t = rw (opened e, shallow, ← p, q, ← r, t)
 
           passes : y ≡ false → limitTrees (readRecords s at end) depth noneBefore
               ≡ andThen (limitTrees (childrenOf s place) (suc depth) noneBefore) (limitTrees (readRecords s (stopOf s place) end) depth (counts (a + pick (eqb k 2) 1 0) (b + pick (eqb k 3) 1 0) (c + pick (eqb k 4) 1 0)))
-          passes t = rw (opened e, lt-leb 41 depth d, ← p, q, ← r, t)
+          passes t = rw (opened e, shallow, ← p, q, ← r, t)
 
           pub clears : y ≡ false → {l : ℕ} → l ≡ le 4 s place → Clear s at end depth place l k a b c
           clears t {l} f =
@@ -138,10 +141,10 @@ module _ {s : List ℕ} {at end depth place l k a b c : ℕ} (g : Clear s at end
         record { passed = g .rest; few-storage = omega arith; few-structs = omega arith; few-functions = omega arith; same = rw (g .is, e, ei .0, ej .0, em .0) }
 
     module _ {body : ℕ} (eb : body ≡ bodyOf s place) where
-      pub children-good : {f : declared.Form} → formOf f ≡ limitTrees (readRecords s body (place + l)) (depth + 1) noneBefore → f ≡ answer.Good
+      pub children-good : {f : declared.LimitCheck} → limitsOf f ≡ limitTrees (readRecords s body (place + l)) (depth + 1) noneBefore → f ≡ answer.Within
           → Limiting s at end depth (place + l) (a + i) (b + j) (c + m)
-      unfolding formOf
-      children-good ef e = goes-on (rw (← eb) (sym ef ∙ ap formOf e))
+      unfolding limitsOf
+      children-good ef e = goes-on (rw (← eb) (sym ef ∙ ap limitsOf e))
 
       pub no-children : place + l ≤ body → Limiting s at end depth (place + l) (a + i) (b + j) (c + m)
       unfolding limitTree
@@ -154,9 +157,9 @@ module _ {s : List ℕ} {at end depth place l k a b c : ℕ} (g : Clear s at end
     pub kids-passed : Passed s body (place + l)
     kids-passed = rw eb (g .kids)
 
-    pub children-bad : {f : declared.Form} → formOf f ≡ limitTrees (readRecords s body (place + l)) (depth + 1) noneBefore → {y : ℕ} → f ≡ answer.Bad y
-        → formOf (answer.Bad y) ≡ limitTrees (readRecords s at end) depth noneBefore
-    unfolding formOf andThen
+    pub children-bad : {f : declared.LimitCheck} → limitsOf f ≡ limitTrees (readRecords s body (place + l)) (depth + 1) noneBefore → {y : ℕ} → f ≡ answer.Over y
+        → limitsOf (answer.Over y) ≡ limitTrees (readRecords s at end) depth noneBefore
+    unfolding limitsOf andThen
     children-bad ef {y} e =
-        let z : limitTrees (readRecords s (bodyOf s place) (place + l)) (depth + 1) noneBefore ≡ Bad y = rw (← eb) (sym ef ∙ ap formOf e) in
+        let z : limitTrees (readRecords s (bodyOf s place) (place + l)) (depth + 1) noneBefore ≡ Bad y = rw (← eb) (sym ef ∙ ap limitsOf e) in
         rw (g .is, z)

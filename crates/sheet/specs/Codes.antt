@@ -8,7 +8,7 @@ use mathlib.Core.Option.{Option, none, some}
 use lib.Dec.{leb, eqb}
 use lib.ListN.{getD}
 use Rattle.definitions.specs.Fields.{le}
-use Rattle.definitions.specs.Grammar.{Entry, upTo, optional, number, irType, valueAndType, nameAndType, Field, single, counted, listed, Class, Pattern, done, one, perhaps, many, rows}
+use Rattle.definitions.specs.Grammar.{Entry, upTo, optional, number, irType, valueAndType, nameAndType, Field, single, counted, listed, Class, Pattern, done, one, perhaps, many, originWidth, origin, rows}
 use Rattle.definitions.specs.Records.{pick, Row, noRow, row, rowIn, Next, refused, left, after}
 
 -- PLACES: the code gives the place after a field, or after all fields, and 0 where there is none. A field starts behind its record's head, so none ends at 0.
@@ -46,11 +46,11 @@ fieldsFrom (suc n) x = pick (eqb x 0) [] (fieldOf (x % 16) ∷ fieldsFrom n (x /
 abbrev pub fieldsOf : ℕ → List Field
 fieldsOf x = fieldsFrom 5 x
 
--- an entry of a list, by the list's digit
-unfoldable pub entryOf : ℕ → Entry
-entryOf d = pick (eqb d 10) valueAndType (pick (eqb d 11) irType (pick (eqb d 13) (upTo 65534) nameAndType))
+-- what the items of a list are, by the list's digit
+unfoldable pub itemForm : ℕ → Entry
+itemForm d = pick (eqb d 10) valueAndType (pick (eqb d 11) irType (pick (eqb d 13) (upTo 65534) nameAndType))
 
--- PATTERNS: two digits a child, the first child lowest: how often, and its class
+-- PATTERNS: two digits a child, the first child lowest: how often, and its class. A row of 64 bits has room for five.
 unfoldable pub classes : List Class
 classes =
     Class.contract ∷ Class.contract ∷ Class.storage ∷ Class.struct ∷ Class.function ∷ Class.block ∷ Class.fieldInit ∷ Class.statement ∷ Class.expression ∷
@@ -67,7 +67,7 @@ patternFrom zero x = done
 patternFrom (suc n) x = pick (eqb x 0) done (child (x % 256) (patternFrom n (x / 256)))
 
 abbrev pub patternOf : ℕ → Pattern
-patternOf x = patternFrom 3 x
+patternOf x = patternFrom 5 x
 
 -- a class, and a pattern, that the digits can name
 unfoldable pub classCoded : ℕ → Bool
@@ -78,11 +78,11 @@ codedFrom zero x = eqb x 0
 codedFrom (suc n) x = pick (eqb x 0) true (classCoded (x % 256 % 16) && codedFrom n (x / 256))
 
 abbrev pub coded : ℕ → Bool
-coded x = codedFrom 3 x
+coded x = codedFrom 5 x
 
--- what a pattern leaves after a record of a class: 255 for none
+-- what a pattern leaves after a record of a class: 16 for none, which would ask for a record of class 0
 unfoldable pub nextOf : ℕ → Next
-nextOf x = pick (eqb x 255) refused (left (patternOf x))
+nextOf x = pick (eqb x 16) refused (left (patternOf x))
 
 unfoldable pub afterClass : Pattern → ℕ → Next
 afterClass p c = pick (eqb c 0) refused (after p (classOf c))
@@ -90,9 +90,16 @@ afterClass p c = pick (eqb c 0) refused (after p (classOf c))
 -- x is what the pattern leaves after a record of the class
 pub record Leaves (pattern class x : ℕ) : Type 0 where
   pub is : nextOf x ≡ afterClass (patternOf pattern) class
-  pub ok : (x ≡ 255 → ⊥) → coded x ≡ true
+  pub ok : (x ≡ 16 → ⊥) → coded x ≡ true
 
--- ROWS: a digit for the class, five for the fixed fields, and then the children
+-- ROWS: a digit for the class, five for the fixed fields, and then the children. An instruction (class 13) or terminator (14) has its origin before
+-- the fields of the digits; so many bytes that takes.
+unfoldable pub beforeOwn : (class : ℕ) → ℕ
+beforeOwn class = pick (leb 13 class) originWidth 0
+
+unfoldable pub withOrigin : (class : ℕ) → List Field → List Field
+withOrigin class own = pick (leb 13 class) (origin ∷ own) own
+
 abbrev pub classIn : ℕ → ℕ
 classIn x = x % 16
 
@@ -102,15 +109,18 @@ fixedIn x = x / 16 % 1048576
 abbrev pub childrenIn : ℕ → ℕ
 childrenIn x = x / 16777216
 
-unfoldable pub rowOf : ℕ → Row
-rowOf x = pick (eqb x 0) noRow (row (classOf (classIn x)) (fieldsOf (fixedIn x)) (patternOf (childrenIn x)))
+abbrev pub fieldsIn : ℕ → List Field
+fieldsIn x = withOrigin (classIn x) (fieldsOf (fixedIn x))
 
--- the fields of a record that may have children: none; a name; an operator; a function's of either sheet
+unfoldable pub rowOf : ℕ → Row
+rowOf x = pick (eqb x 0) noRow (row (classOf (classIn x)) (fieldsIn x) (patternOf (childrenIn x)))
+
+-- a record that may have children is no instruction or terminator, and has the fields: none; a name; an operator; a function's of either sheet
 unfoldable pub bodyCoded : ℕ → Bool
 bodyCoded c = pick (eqb c 0) true (pick (eqb c 1) true (pick (eqb c 7) true (pick (eqb c 38433) true (eqb c 762641))))
 
 unfoldable pub rowCoded : ℕ → Bool
-rowCoded x = pick (eqb x 0) true (classCoded (classIn x) && (coded (childrenIn x) && pick (eqb (childrenIn x) 0) true (bodyCoded (fixedIn x))))
+rowCoded x = pick (eqb x 0) true (classCoded (classIn x) && (coded (childrenIn x) && pick (eqb (childrenIn x) 0) true (leb (classIn x) 12 && bodyCoded (fixedIn x))))
 
 -- x is the row of the kind k
 pub record RowIs (k x : ℕ) : Type 0 where

@@ -4,9 +4,10 @@ use mathlib.Core.Path.{_≡_}
 use mathlib.Core.List.{List}
 use lib.ListN.{length}
 use Rattle.definitions.specs.Fields.{le}
-use Rattle.definitions.specs.Grammar.{Pattern, rows}
-use Rattle.definitions.specs.Records.{Value, Trees, rowIn, rowFields, fieldsEnd, readValues, readRecords}
-use Rattle.definitions.proofs.Sheets.Passed.{Fine}
+use Rattle.definitions.specs.ContractSheet.{refusal3, refusal4}
+use Rattle.definitions.specs.Grammar.{Class, Field, Pattern, rows}
+use Rattle.definitions.specs.Records.{Good, Value, Trees, node, tcons, rowIn, rowFields, fieldsEnd, readValues, readRecords}
+use Rattle.definitions.specs.Fine.{Head, Fine}
 
 -- the records from `at` to `end` passed
 pub record Passed (s : List ℕ) (at end : ℕ) : Type 0 where
@@ -14,17 +15,17 @@ pub record Passed (s : List ℕ) (at end : ℕ) : Type 0 where
   pub fine : Fine s at end pattern
 
 -- the record at a place: its kind, where it stops, where its children start, its fields, and its children
-abbrev pub kindOf : List ℕ → ℕ → ℕ
-kindOf s at = le 2 s (at + 4)
+abbrev pub recordKind : List ℕ → ℕ → ℕ
+recordKind s at = le 2 s (at + 4)
 
 abbrev pub stopOf : List ℕ → ℕ → ℕ
 stopOf s at = at + le 4 s at
 
 unfoldable pub bodyOf : List ℕ → ℕ → ℕ
-bodyOf s at = fieldsEnd (rowFields (rowIn (kindOf s at) rows)) s (stopOf s at) (at + 6)
+bodyOf s at = fieldsEnd (rowFields (rowIn (recordKind s at) rows)) s (stopOf s at) (at + 6)
 
 unfoldable pub valuesOf : List ℕ → ℕ → List Value
-valuesOf s at = readValues (rowFields (rowIn (kindOf s at) rows)) s (stopOf s at) (at + 6)
+valuesOf s at = readValues (rowFields (rowIn (recordKind s at) rows)) s (stopOf s at) (at + 6)
 
 abbrev pub childrenOf : List ℕ → ℕ → Trees
 childrenOf s at = readRecords s (bodyOf s at) (stopOf s at)
@@ -36,4 +37,20 @@ pub record Standing (s : List ℕ) (at stop kind : ℕ) : Type 0 where
   pub starts : at < end
   pub inside : end ≤ length s
   pub stop-is : stop ≡ stopOf s at
-  pub kind-is : kind ≡ kindOf s at
+  pub kind-is : kind ≡ recordKind s at
+
+-- the first of the records from `at` to `end`, its children, and the records after it, as the reader gives them
+pub record Node (s : List ℕ) (at end : ℕ) : Type 0 where
+  pub class : Class
+  pub fields : List Field
+  pub pattern : Pattern
+  pub head : Head s at end class fields pattern (bodyOf s at) (stopOf s at)
+  pub kids : Fine s (bodyOf s at) (stopOf s at) pattern
+  pub rest : Passed s (stopOf s at) end
+  pub is : readRecords s at end ≡ tcons (node at (recordKind s at) (valuesOf s at) (childrenOf s at)) (readRecords s (stopOf s at) end)
+
+-- a contract sheet of at most 32,768 bytes that passed 3 and 4
+pub record ContractPassed (s : List ℕ) : Type 0 where
+  pub short : length s ≤ 32768
+  pub form : refusal3 s ≡ Good
+  pub limits : refusal4 s ≡ Good

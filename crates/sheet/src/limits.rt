@@ -5,22 +5,43 @@ ghost use lib.Dec.{eqb};
 ghost use lib.ListN.{length};
 ghost use Rattle.definitions.specs.Records.{pick, readRecords};
 ghost use Rattle.definitions.specs.ContractSheet.{countTrees, noneBefore, limitTrees};
-ghost use Rattle.sheet.specs.Forms.{formOf};
+ghost use Rattle.sheet.specs.Forms.{limitsOf};
 ghost use Rattle.sheet.specs.Limits.{tooMany, tooWide};
 ghost use Rattle.sheet.specs.Passed.{Passed, Standing, valuesOf, childrenOf};
-use crate::Form;
+use crate::LimitCheck;
 use crate::places::body_of;
 use crate::places::count;
+use format::KIND;
+use format::contract::AFTER_NAME;
+use format::contract::PARAM;
+use format::contract::PARAM_COUNT;
+use format::kinds;
 use reader::read;
+
+// What a contract may have at most of each, a struct of fields, a function of parameters, an Emit or a Call of arguments.
+const MOST_STORAGE: usize = 256;
+
+const MOST_STRUCTS: usize = 64;
+
+const MOST_FUNCTIONS: usize = 64;
+
+const MOST_FIELDS: usize = 64;
+
+const MOST_PARAMS: usize = 16;
+
+const MOST_ARGUMENTS: usize = 16;
+
+// The depth of the deepest record; the contract's is 1.
+const MOST_DEPTH: usize = 40;
 
 // Whether a record is one too many, after so many storage fields, structs and functions.
 fn too_many(kind: usize, storage: usize, structs: usize, functions: usize) -> bool
     ensures { λ r. ⌜ r ≡ tooMany kind storage structs functions ⌝ }
 {
     match kind {
-        2 => 256 <= storage,
-        3 => 64 <= structs,
-        4 => 64 <= functions,
+        kinds::STORAGE => MOST_STORAGE <= storage,
+        kinds::STRUCT => MOST_STRUCTS <= structs,
+        kinds::FUNCTION => MOST_FUNCTIONS <= functions,
         _ => false,
     }
 }
@@ -31,10 +52,10 @@ fn too_wide(s: &[u8], at: usize, stop: usize, kind: usize) -> bool
     ensures { λ r. ⌜ r ≡ tooWide kind (valuesOf (now (s .entry)) at) (countTrees (childrenOf (now (s .entry)) at)) ⌝ }
 {
     match kind {
-        3 => 65 <= (stop - (at + 8)) / 4,
-        4 => 17 <= read(s, at + 12, 2),
-        19 => 17 <= count(s, at + 8, stop),
-        37 => 17 <= count(s, at + 8, stop),
+        kinds::STRUCT => MOST_FIELDS < (stop - (at + AFTER_NAME)) / PARAM,
+        kinds::FUNCTION => MOST_PARAMS < read(s, at + PARAM_COUNT, 2),
+        kinds::EMIT_STMT => MOST_ARGUMENTS < count(s, at + AFTER_NAME, stop),
+        kinds::CALL_EXPR => MOST_ARGUMENTS < count(s, at + AFTER_NAME, stop),
         _ => false,
     }
 }
@@ -47,9 +68,9 @@ fn one_if(kind: usize, counted: usize) -> usize
 }
 
 // The records from `at` to `end`, at a depth.
-pub(crate) fn limits(s: &[u8], at: usize, end: usize, depth: usize) -> Form
+pub(crate) fn limits(s: &[u8], at: usize, end: usize, depth: usize) -> LimitCheck
     requires { ⌜ Passed (now s) at end × ((end ≤ length (now s)) × (depth ≤ 41)) ⌝ }
-    ensures { λ r. ⌜ formOf r ≡ limitTrees (readRecords (now (s .entry)) at end) depth noneBefore ⌝ }
+    ensures { λ r. ⌜ limitsOf r ≡ limitTrees (readRecords (now (s .entry)) at end) depth noneBefore ⌝ }
 {
     let mut place = at;
     let mut storage = 0;
@@ -57,27 +78,27 @@ pub(crate) fn limits(s: &[u8], at: usize, end: usize, depth: usize) -> Form
     let mut functions = 0;
     while place < end {
         let stop = place + read(s, place, 4);
-        let kind = read(s, place + 4, 2);
-        if 41 <= depth {
-            return Form::Bad(place);
+        let kind = read(s, place + KIND, 2);
+        if MOST_DEPTH < depth {
+            return LimitCheck::Over(place);
         }
         if too_many(kind, storage, structs, functions) {
-            return Form::Bad(place);
+            return LimitCheck::Over(place);
         }
         if too_wide(s, place, stop, kind) {
-            return Form::Bad(place);
+            return LimitCheck::Over(place);
         }
-        storage += one_if(kind, 2);
-        structs += one_if(kind, 3);
-        functions += one_if(kind, 4);
+        storage += one_if(kind, kinds::STORAGE);
+        structs += one_if(kind, kinds::STRUCT);
+        functions += one_if(kind, kinds::FUNCTION);
         let body = body_of(s, place, stop, kind);
         if body < stop {
             let inner = limits(s, body, stop, depth + 1);
-            if let Form::Bad(fault) = inner {
-                return Form::Bad(fault);
+            if let LimitCheck::Over(fault) = inner {
+                return LimitCheck::Over(fault);
             }
         }
         place = stop;
     }
-    Form::Good
+    LimitCheck::Within
 }

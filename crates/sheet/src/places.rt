@@ -7,9 +7,13 @@ ghost use Rattle.definitions.specs.Records.{readRecords};
 ghost use Rattle.definitions.specs.ContractSheet.{countTrees};
 ghost use Rattle.sheet.specs.Passed.{Passed, Standing, bodyOf};
 use crate::tables::row_of;
+use format::HEAD;
+use format::TYPE;
+use format::contract;
+use format::program;
 use reader::read;
 
-// The place after a count and so many entries of a size.
+// The place after a count and so many items of a size.
 fn past_list(s: &[u8], at: usize, size: usize) -> usize
     requires { ⌜ (at + 2 + size * le 2 (now s) at ≤ length (now s)) × (size ≤ 6) ⌝ }
     ensures { λ r. ⌜ r ≡ at + 2 + size * le 2 (now (s .entry)) at ⌝ }
@@ -27,11 +31,14 @@ pub fn body_of(s: &[u8], at: usize, stop: usize, kind: usize) -> usize
         return stop;
     }
     match row / 16 % 0x100000 {
-        0x1 => at + 8, // a name or an id
-        0x7 => at + 8, // an operator
-        0x9621 => past_list(s, at + 12, 4), // function: n, return type, is_pub, parameters
-        0xba311 => past_list(s, past_list(s, at + 14, 6), 4), // function: id, n, return type, parameters, locals
-        _ => at + 6, // none
+        0x1 => at + contract::AFTER_NAME, // a name or an id
+        0x7 => at + contract::AFTER_NAME, // an operator
+        0x9621 => past_list(s, at + contract::PARAM_COUNT, contract::PARAM), // function: n, return type, is_pub, parameters
+        0xba311 => {
+            let locals = past_list(s, at + program::PARAM_COUNT, program::PARAM);
+            past_list(s, locals, TYPE) // function: id, n, return type, parameters, locals
+        }
+        _ => at + HEAD, // none
     }
 }
 

@@ -7,12 +7,14 @@ ghost use Rattle.definitions.specs.Records.{mayEnd, checkRecords};
 ghost use Rattle.sheet.specs.Codes.{patternOf, coded, Leaves, kindAt};
 ghost use Rattle.sheet.specs.Forms.{formOf};
 use crate::Form;
-use crate::entries::past_fields;
+use crate::fixed_fields::past_fixed;
 use crate::tables::row_of;
+use format::HEAD;
+use format::KIND;
 use reader::read;
 
-// No pattern: what is left of one that does not allow a record.
-const REFUSED: usize = 0xff;
+// No pattern: what is left of one that does not allow a record. As a pattern it would ask for a record of class 0, which none has.
+const REFUSED: usize = 0x10;
 
 // How often a child may come: one, or any number. (2: perhaps one.)
 const ONE: usize = 1;
@@ -25,17 +27,17 @@ fn kind_at(s: &[u8], at: usize, end: usize) -> usize
     ensures { λ r. ⌜ r ≡ kindAt (now (s .entry)) at end ⌝ }
 {
     let room = end - at;
-    if room < 6 {
+    if room < HEAD {
         return 0;
     }
     let length = read(s, at, 4);
-    if length < 6 {
+    if length < HEAD {
         return 0;
     }
     if room < length {
         return 0;
     }
-    read(s, at + 4, 2)
+    read(s, at + KIND, 2)
 }
 
 // What a pattern leaves after a record of a class, or REFUSED.
@@ -94,7 +96,7 @@ pub(crate) fn records(s: &[u8], at: usize, end: usize, pattern: usize) -> Form
             return Form::Bad(place); // no record that may stand here
         }
         let stop = place + read(s, place, 4);
-        let body = past_fields(s, place + 6, stop, fixed);
+        let body = past_fixed(s, place + HEAD, stop, class, fixed);
         if body == 0 {
             return Form::Bad(place); // a fault in its own fields
         }

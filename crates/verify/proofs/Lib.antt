@@ -1,15 +1,9 @@
-pub mod Records
-pub mod Types
-pub mod ResultType
-pub mod Walk
-pub mod Entries
-pub mod Scan
-pub mod Params
-pub mod Blocks
-pub mod Checks
-pub mod Functions
-pub mod Values
-pub mod Ids
-pub mod Operands
-pub mod Instrs
-pub mod Whole
+mod Ids
+mod Steps
+mod Tables
+mod Firsts
+mod Values
+mod Operands
+mod Instrs
+mod Seconds
+mod Whole

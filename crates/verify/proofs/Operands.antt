@@ -1,195 +1,166 @@
 -- What the verifier says of a binary instruction, a return and a branch, by the numbers of the types. Assumes nothing.
-use mathlib.Core.Path.{_≡_, refl, ap, ap₂, sym, _∙_, subst}
+use mathlib.Core.Path.{_≡_, refl, ap, ap₂, sym, _∙_}
 use mathlib.Core.Bool.{Bool, true, false, _&&_, not}
 use mathlib.Core.List.{List}
 use mathlib.Core.Option.{Option, none, some}
-use Prim.Native.Nat.{ℕ, _+_, _/_, _%_, _^_, _<_}
-use native.Mathlib.Omega.{arith}
+use Prim.Native.Nat.{ℕ, _+_}
 use lib.Dec.{eqb}
-use borrow.Author.Tests.{eq-eqb, ne-eqb, eqb-true, eqb-false}
-use Rattle.definitions.specs.Result.{Result, err, ok, _>>_, Done, check}
+use native.Mathlib.Omega.{arith}
+use borrow.Author.Tests.{eqb-true, eqb-false, eq-eqb, ne-eqb}
+use Rattle.definitions.specs.Result.{err, ok, _>>_, check}
 use Rattle.definitions.specs.Fields.{le}
 use Rattle.definitions.specs.Ast.{BinOp}
-use Rattle.definitions.specs.Ir.{IrType, eqType, Instruction, Terminator}
-use Rattle.definitions.specs.Records.{okType, optFrom, typeFrom}
-use Rattle.definitions.specs.Verify.{VerifyError, Checked, Defined, definedType, checkValueRef, checkBlockRef, verifyInstr, verifyTerminator}
+use Rattle.definitions.specs.Ir.{IrType, eqType}
+use Rattle.definitions.specs.Records.{optFrom}
+use Rattle.definitions.specs.Verify.{VerifyError, Checked, Defined, definedType, checkValueRef, verifyInstr, verifyTerminator}
+use Rattle.definitions.proofs.Results.{by-test}
+use Rattle.program_nodes.specs.Offsets.{fieldsAt, ownAt, leftAt, rightAt}
+use Rattle.program_nodes.specs.Positions.{rawType, fromRaw, Numbered, typeHere, irOf, FunctionHere}
+use Rattle.program_nodes.specs.Definitions.{definitionsOf, firstType}
+use Rattle.program_nodes.specs.declared.Function.{Function}
+use Rattle.program_nodes.proofs.Types.{eq-raw}
 use Rattle.verify.specs.Answers.{named}
-use Rattle.verify.specs.Positions.{rawType, rawOpt, fromRaw, typeHere}
-use Rattle.verify.specs.Entries.{checkCondition, Entry, firstType, Same}
-use Rattle.verify.proofs.Types.{raw-here, raw-back, eq-raw}
-use Rattle.verify.proofs.Scan.{opt-absent, opt-present}
-use Rattle.verify.proofs.Checks.{failed-then, passed-then}
-use Rattle.verify.proofs.Values.{Typed, untyped, typed}
+use Rattle.verify.specs.Promises.{Outcome, Same, Checks, targetCheck, binaryCheck, termCheck, returnHere, branchHere, checkCondition}
+use Rattle.verify.proofs.Firsts.{absent, present}
+use Rattle.verify.proofs.Values.{from-raw, Typed, untyped, typed}
 
--- TYPES BY NUMBER: a number of four bytes gives its type back, and types are equal as their numbers are
-pub from-raw : (t : IrType) (raw : ℕ) → rawType t ≡ raw → raw < 2 ^ 32 → fromRaw raw ≡ t
-from-raw t raw e h =
-    let f : raw / 65536 % 65536 ≡ raw / 65536 = omega (arith, h) in
-    rw f (subst (λ (x : ℕ). typeFrom (x % 65536) (x / 65536) ≡ t) e (raw-back t))
+-- by whether two numbers are equal
+by-eq : {G : Type 0} (x y : ℕ) → (x ≡ y → G) → ((x ≡ y → ⊥) → G) → G
+by-eq x y same other = by-test (eqb x y) (λ z. same (eqb-true x y z)) (λ z. other (eqb-false x y z))
 
-pub same-types : (a b : IrType) (x y : ℕ) → rawType a ≡ x → rawType b ≡ y → x ≡ y → eqType a b ≡ true
-same-types a b x y p q e = eq-raw a b ∙ eq-eqb (rawType a) (rawType b) (p ∙ (e ∙ sym q))
+-- types are equal as their numbers are
+module _ {a b : IrType} {x y : ℕ} (A : Numbered (some a) x) (B : Numbered (some b) y) where
+  same-types : x ≡ y → eqType a b ≡ true
+  same-types e = eq-raw a b ∙ eq-eqb (rawType a) (rawType b) (sym (A .is) ∙ (e ∙ B .is))
 
-pub other-types : (a b : IrType) (x y : ℕ) → rawType a ≡ x → rawType b ≡ y → (x ≡ y → ⊥) → eqType a b ≡ false
-other-types a b x y p q n = eq-raw a b ∙ ne-eqb (rawType a) (rawType b) (λ z. n (sym p ∙ (z ∙ q)))
+  other-types : (x ≡ y → ⊥) → eqType a b ≡ false
+  other-types n = eq-raw a b ∙ ne-eqb (rawType a) (rawType b) (λ z. n (A .is ∙ (z ∙ sym (B .is))))
 
--- a reference to a value
-ref-none : (v : ℕ) (ds : Defined) → definedType v ds ≡ none → checkValueRef v ds ≡ err (VerifyError.UndefinedValue v)
-ref-none v ds e = rw (e, checkValueRef)
+void : Numbered (some IrType.Void) 4
+void = record { is = refl; small = omega arith }
 
-ref-some : (v : ℕ) (ds : Defined) (t : IrType) → definedType v ds ≡ some t → checkValueRef v ds ≡ ok t
-ref-some v ds t e = rw (e, checkValueRef)
+bool : Numbered (some IrType.BoolT) 1
+bool = record { is = refl; small = omega arith }
 
 -- BINARY: with the left operand's type, with the right one's, with the instruction's
-module _ (s : List ℕ) (name q : ℕ) (es : List Entry) where
-  abbrev pub BinaryGives : Result (ℕ × VerifyError) Done → Type 0
-  BinaryGives x = (ds : Defined) (op : BinOp) (fids : List ℕ) (lc : ℕ) → Same ds es → x ≡ named name (verifyInstr (Instruction.Binary op (typeHere s (q + 8)) (le 2 s (q + 12)) (le 2 s (q + 14))) ds fids lc)
+module _ {s : List ℕ} {f : Function} (F : FunctionHere s f) (q l : ℕ) (l-is : l ≡ le 2 s (q + leftAt)) {lhs : ℕ} (L : Numbered (firstType l (definitionsOf s f)) lhs) where
+  pub binary-left : lhs ≡ 65535 → (op : BinOp) → Checks s f (err (f .name .0, VerifyError.UndefinedValue l)) (binaryCheck s f q op)
+  unfolding verifyInstr
+  binary-left z op = record { says = λ ds S. rw (← l-is) (rw (untyped F l L z ds S)) }
 
-  module _ (l lhs : ℕ) (l-is : l ≡ le 2 s (q + 12)) (l-type : lhs ≡ rawOpt (firstType l es)) where
-    pub binary-left : lhs ≡ 65535 → BinaryGives (err (name, VerifyError.UndefinedValue l))
+  module _ (l-some : lhs ≡ 65535 → ⊥) (r : ℕ) (r-is : r ≡ le 2 s (q + rightAt)) {rhs : ℕ} (R : Numbered (firstType r (definitionsOf s f)) rhs) where
+    pub binary-right : rhs ≡ 65535 → (op : BinOp) → Checks s f (err (f .name .0, VerifyError.UndefinedValue r)) (binaryCheck s f q op)
     unfolding verifyInstr
-    binary-left z ds op fids lc S = rw (← l-is) (rw (ref-none l ds (untyped ds es l lhs S l-type z)))
+    binary-right z op = record { says = λ ds S. rw (← l-is, ← r-is) (rw (typed F l L l-some ds S .is, untyped F r R z ds S)) }
 
-    module _ (l-some : lhs ≡ 65535 → ⊥) (r rhs : ℕ) (r-is : r ≡ le 2 s (q + 14)) (r-type : rhs ≡ rawOpt (firstType r es)) where
-      pub binary-right : rhs ≡ 65535 → BinaryGives (err (name, VerifyError.UndefinedValue r))
+    module _ (r-some : rhs ≡ 65535 → ⊥) {t : ℕ} (T : Numbered (some (typeHere s (q + ownAt))) t) (op : BinOp) where
+      both : (ds : Defined) (a : Typed ds l lhs) (b : Typed ds r rhs)
+          → binaryCheck s f q op ds ≡ check (eqType (a .type) (typeHere s (q + ownAt)) && eqType (b .type) (typeHere s (q + ownAt))) (VerifyError.OperandTypeMismatch (a .type) (b .type))
       unfolding verifyInstr
-      binary-right z ds op fids lc S =
-          let t : Typed ds l lhs = typed ds es l lhs S l-type l-some in
-          rw (← l-is, ← r-is) (rw (ref-some l ds (t .type) (t .is), ref-none r ds (untyped ds es r rhs S r-type z)))
+      both ds a b = rw (← l-is, ← r-is) (rw (a .is, b .is))
 
-      module _ (r-some : rhs ≡ 65535 → ⊥) (t : ℕ) (okay : okType (le 2 s (q + 8)) (le 2 s (q + 10)) ≡ true) (t-is : t ≡ le 4 s (q + 8)) where
-        own-raw : rawType (typeHere s (q + 8)) ≡ t
-        own-raw = let e : q + 10 ≡ q + 8 + 2 = omega arith in raw-here s (q + 8) (rw e at okay) ∙ sym t-is
+      pub binary-good : lhs ≡ t → rhs ≡ t → Checks s f (ok tt) (binaryCheck s f q op)
+      binary-good e g = record {
+        says = λ ds S.
+            let a = typed F l L l-some ds S in
+            let b = typed F r R r-some ds S in
+            sym (ap (named (f .name .0)) (both ds a b) ∙ rw (same-types (a .numbered) T e, same-types (b .numbered) T g));
+      }
 
-        both : (ds : Defined) (op : BinOp) (fids : List ℕ) (lc : ℕ) (a b : IrType) → definedType l ds ≡ some a → definedType r ds ≡ some b
-            → verifyInstr (Instruction.Binary op (typeHere s (q + 8)) (le 2 s (q + 12)) (le 2 s (q + 14))) ds fids lc ≡ check (eqType a (typeHere s (q + 8)) && eqType b (typeHere s (q + 8))) (VerifyError.OperandTypeMismatch a b)
-        unfolding verifyInstr
-        both ds op fids lc a b e f = rw (← l-is, ← r-is) (rw (ref-some l ds a e, ref-some r ds b f))
+      bad-is : {a b : IrType} → Numbered (some a) lhs → Numbered (some b) rhs → (lhs ≡ t → rhs ≡ t → ⊥) → eqType a (typeHere s (q + ownAt)) && eqType b (typeHere s (q + ownAt)) ≡ false
+      bad-is {a} {b} A B n = by-eq lhs t (λ z. rw (same-types A T z) (other-types B T (n z))) (λ z. rw (other-types A T z))
 
-        pub binary-good : lhs ≡ t → rhs ≡ t → BinaryGives (ok tt)
-        binary-good e f ds op fids lc S =
-            let a : Typed ds l lhs = typed ds es l lhs S l-type l-some in
-            let b : Typed ds r rhs = typed ds es r rhs S r-type r-some in
-            sym (ap (named name) (both ds op fids lc (a .type) (b .type) (a .is) (b .is)) ∙ rw (same-types (a .type) (typeHere s (q + 8)) lhs t (a .raw-is) own-raw e, same-types (b .type) (typeHere s (q + 8)) rhs t (b .raw-is) own-raw f))
-
-        bad-is : (a b : IrType) → rawType a ≡ lhs → rawType b ≡ rhs → (lhs ≡ t → rhs ≡ t → ⊥) → eqType a (typeHere s (q + 8)) && eqType b (typeHere s (q + 8)) ≡ false
-        bad-is a b p w n = go (eqb lhs t) refl
-          where
-            go : (x : Bool) → eqb lhs t ≡ x → eqType a (typeHere s (q + 8)) && eqType b (typeHere s (q + 8)) ≡ false
-            go true e = let z : lhs ≡ t = eqb-true lhs t e in rw (same-types a (typeHere s (q + 8)) lhs t p own-raw z) (other-types b (typeHere s (q + 8)) rhs t w own-raw (n z))
-            go false e = rw (other-types a (typeHere s (q + 8)) lhs t p own-raw (eqb-false lhs t e))
-
-        pub binary-bad : lhs < 2 ^ 32 → rhs < 2 ^ 32 → (lhs ≡ t → rhs ≡ t → ⊥) → BinaryGives (err (name, VerifyError.OperandTypeMismatch (fromRaw lhs) (fromRaw rhs)))
-        binary-bad lb rb n ds op fids lc S =
-            let a : Typed ds l lhs = typed ds es l lhs S l-type l-some in
-            let b : Typed ds r rhs = typed ds es r rhs S r-type r-some in
-            ap₂ (λ (x y : IrType). err (name, VerifyError.OperandTypeMismatch x y)) (from-raw (a .type) lhs (a .raw-is) lb) (from-raw (b .type) rhs (b .raw-is) rb)
-            ∙ sym (ap (named name) (both ds op fids lc (a .type) (b .type) (a .is) (b .is)) ∙ rw (bad-is (a .type) (b .type) (a .raw-is) (b .raw-is) n))
+      pub binary-bad : (lhs ≡ t → rhs ≡ t → ⊥) → Checks s f (err (f .name .0, VerifyError.OperandTypeMismatch (fromRaw lhs) (fromRaw rhs))) (binaryCheck s f q op)
+      binary-bad n = record {
+        says = λ ds S.
+            let a = typed F l L l-some ds S in
+            let b = typed F r R r-some ds S in
+            ap₂ (λ (x y : IrType). err (f .name .0, VerifyError.OperandTypeMismatch x y)) (from-raw (a .numbered)) (from-raw (b .numbered))
+            ∙ sym (ap (named (f .name .0)) (both ds a b) ∙ rw (bad-is (a .numbered) (b .numbered) n));
+      }
 
 -- RETURN: nothing, or a value, against the function's type
-module _ (s : List ℕ) (name at q : ℕ) (es : List Entry) (okay : okType (le 2 s (at + 10)) (le 2 s (at + 10 + 2)) ≡ true) (expected v : ℕ) (e-is : expected ≡ le 4 s (at + 10)) (v-is : v ≡ le 2 s (q + 6)) where
-  abbrev pub ReturnGives : Result (ℕ × VerifyError) Done → Type 0
-  ReturnGives x = (ds : Defined) (blocks : List ℕ) → Same ds es → x ≡ named name (verifyTerminator (Terminator.Return (optFrom (le 2 s (q + 6)))) (typeHere s (at + 10)) ds blocks)
+module _ {s : List ℕ} {f : Function} (F : FunctionHere s f) (q : ℕ) {expected : ℕ} (E : Numbered (some (irOf s f .retTy)) expected) (v : ℕ) (v-is : v ≡ le 2 s (q + fieldsAt)) where
+  abbrev ReturnGives : Outcome → Type 0
+  ReturnGives r = Checks s f r (termCheck s f (returnHere s q))
 
-  expected-raw : rawType (typeHere s (at + 10)) ≡ expected
-  expected-raw = raw-here s (at + 10) okay ∙ sym e-is
-
-  nothing : v ≡ 65535 → optFrom (le 2 s (q + 6)) ≡ none
-  nothing z = opt-absent (le 2 s (q + 6)) (sym v-is ∙ z)
+  nothing : v ≡ 65535 → optFrom (le 2 s (q + fieldsAt)) ≡ none
+  nothing z = absent (le 2 s (q + fieldsAt)) (sym v-is ∙ z)
 
   pub return-nothing : v ≡ 65535 → expected ≡ 4 → ReturnGives (ok tt)
   unfolding verifyTerminator
-  return-nothing z e ds blocks S = rw (nothing z, same-types (typeHere s (at + 10)) IrType.Void expected 4 expected-raw refl e)
+  return-nothing z e = record { says = λ ds S. rw (nothing z, same-types E void e) }
 
-  pub return-missing : v ≡ 65535 → (expected ≡ 4 → ⊥) → expected < 2 ^ 32 → ReturnGives (err (name, VerifyError.ReturnTypeMismatch (fromRaw expected) none))
+  pub return-missing : v ≡ 65535 → (expected ≡ 4 → ⊥) → ReturnGives (err (f .name .0, VerifyError.ReturnTypeMismatch (fromRaw expected) none))
   unfolding verifyTerminator
-  return-missing z n b ds blocks S = rw (nothing z, other-types (typeHere s (at + 10)) IrType.Void expected 4 expected-raw refl n) (ap (λ (x : IrType). err (name, VerifyError.ReturnTypeMismatch x none)) (from-raw (typeHere s (at + 10)) expected expected-raw b))
+  return-missing z n = record { says = λ ds S. rw (nothing z, other-types E void n) (ap (λ (x : IrType). err (f .name .0, VerifyError.ReturnTypeMismatch x none)) (from-raw E)) }
 
-  module _ (there : v ≡ 65535 → ⊥) (got : ℕ) (v-type : got ≡ rawOpt (firstType v es)) where
-    a-value : optFrom (le 2 s (q + 6)) ≡ some v
-    a-value = opt-present (le 2 s (q + 6)) (λ z. there (v-is ∙ z)) ∙ ap (λ (x : ℕ). some x) (sym v-is)
+  module _ (there : v ≡ 65535 → ⊥) {got : ℕ} (G : Numbered (firstType v (definitionsOf s f)) got) where
+    a-value : optFrom (le 2 s (q + fieldsAt)) ≡ some v
+    a-value = rw (← v-is) (present v there)
 
-    pub return-undefined : got ≡ 65535 → ReturnGives (err (name, VerifyError.UndefinedValue v))
+    pub return-undefined : got ≡ 65535 → ReturnGives (err (f .name .0, VerifyError.UndefinedValue v))
     unfolding verifyTerminator
-    return-undefined z ds blocks S = rw (a-value, ref-none v ds (untyped ds es v got S v-type z))
-
-    with-type : (ds : Defined) (blocks : List ℕ) (t : IrType) → definedType v ds ≡ some t
-        → verifyTerminator (Terminator.Return (optFrom (le 2 s (q + 6)))) (typeHere s (at + 10)) ds blocks ≡ check (not (eqType (typeHere s (at + 10)) IrType.Void) && eqType (typeHere s (at + 10)) t) (VerifyError.ReturnTypeMismatch (typeHere s (at + 10)) (some t))
-    unfolding verifyTerminator
-    with-type ds blocks t e = rw (a-value, ref-some v ds t e)
+    return-undefined z = record { says = λ ds S. rw (a-value, untyped F v G z ds S) }
 
     module _ (got-some : got ≡ 65535 → ⊥) where
+      with-type : (ds : Defined) (t : Typed ds v got)
+          → termCheck s f (returnHere s q) ds ≡ check (not (eqType (irOf s f .retTy) IrType.Void) && eqType (irOf s f .retTy) (t .type)) (VerifyError.ReturnTypeMismatch (irOf s f .retTy) (some (t .type)))
+      unfolding verifyTerminator
+      with-type ds t = rw (a-value, t .is)
+
       pub return-good : (expected ≡ 4 → ⊥) → expected ≡ got → ReturnGives (ok tt)
-      return-good n e ds blocks S =
-          let t : Typed ds v got = typed ds es v got S v-type got-some in
-          sym (ap (named name) (with-type ds blocks (t .type) (t .is)) ∙ rw (other-types (typeHere s (at + 10)) IrType.Void expected 4 expected-raw refl n, same-types (typeHere s (at + 10)) (t .type) expected got expected-raw (t .raw-is) e))
+      return-good n e = record {
+        says = λ ds S.
+            let t = typed F v G got-some ds S in
+            sym (ap (named (f .name .0)) (with-type ds t) ∙ rw (other-types E void n, same-types E (t .numbered) e));
+      }
 
-      bad-return : (t : IrType) → rawType t ≡ got → ((expected ≡ 4 → ⊥) → expected ≡ got → ⊥) → not (eqType (typeHere s (at + 10)) IrType.Void) && eqType (typeHere s (at + 10)) t ≡ false
-      bad-return t w n = go (eqb expected 4) refl
-        where
-          go : (x : Bool) → eqb expected 4 ≡ x → not (eqType (typeHere s (at + 10)) IrType.Void) && eqType (typeHere s (at + 10)) t ≡ false
-          go true e = rw (same-types (typeHere s (at + 10)) IrType.Void expected 4 expected-raw refl (eqb-true expected 4 e))
-          go false e = let z : expected ≡ 4 → ⊥ = eqb-false expected 4 e in rw (other-types (typeHere s (at + 10)) IrType.Void expected 4 expected-raw refl z) (other-types (typeHere s (at + 10)) t expected got expected-raw w (n z))
+      bad-return : {t : IrType} → Numbered (some t) got → ((expected ≡ 4 → ⊥) → expected ≡ got → ⊥) → not (eqType (irOf s f .retTy) IrType.Void) && eqType (irOf s f .retTy) t ≡ false
+      bad-return T n = by-eq expected 4 (λ z. rw (same-types E void z)) (λ z. rw (other-types E void z) (other-types E T (n z)))
 
-      pub return-bad : expected < 2 ^ 32 → got < 2 ^ 32 → ((expected ≡ 4 → ⊥) → expected ≡ got → ⊥) → ReturnGives (err (name, VerifyError.ReturnTypeMismatch (fromRaw expected) (some (fromRaw got))))
-      return-bad eb gb n ds blocks S =
-          let t : Typed ds v got = typed ds es v got S v-type got-some in
-          ap₂ (λ (x y : IrType). err (name, VerifyError.ReturnTypeMismatch x (some y))) (from-raw (typeHere s (at + 10)) expected expected-raw eb) (from-raw (t .type) got (t .raw-is) gb)
-          ∙ sym (ap (named name) (with-type ds blocks (t .type) (t .is)) ∙ rw (bad-return (t .type) (t .raw-is) n))
+      pub return-bad : ((expected ≡ 4 → ⊥) → expected ≡ got → ⊥) → ReturnGives (err (f .name .0, VerifyError.ReturnTypeMismatch (fromRaw expected) (some (fromRaw got))))
+      return-bad n = record {
+        says = λ ds S.
+            let t = typed F v G got-some ds S in
+            ap₂ (λ (x y : IrType). err (f .name .0, VerifyError.ReturnTypeMismatch x (some y))) (from-raw E) (from-raw (t .numbered))
+            ∙ sym (ap (named (f .name .0)) (with-type ds t) ∙ rw (bad-return (t .numbered) n));
+      }
 
 -- THE VALUE OF A BRANCH
-module _ (s : List ℕ) (name q : ℕ) (es : List Entry) (v raw : ℕ) (v-is : v ≡ le 2 s (q + 6)) (v-type : raw ≡ rawOpt (firstType v es)) where
-  abbrev ConditionGives : Result (ℕ × VerifyError) Done → Type 0
-  ConditionGives x = (ds : Defined) → Same ds es → x ≡ named name (checkCondition (le 2 s (q + 6)) ds)
+module _ {s : List ℕ} {f : Function} (F : FunctionHere s f) (q v : ℕ) (v-is : v ≡ le 2 s (q + fieldsAt)) {raw : ℕ} (N : Numbered (firstType v (definitionsOf s f)) raw) where
+  abbrev ConditionGives : Outcome → Type 0
+  ConditionGives r = Checks s f r (checkCondition (le 2 s (q + fieldsAt)))
 
-  pub condition-undefined : raw ≡ 65535 → ConditionGives (err (name, VerifyError.UndefinedValue v))
+  pub condition-undefined : raw ≡ 65535 → ConditionGives (err (f .name .0, VerifyError.UndefinedValue v))
   unfolding checkCondition
-  condition-undefined z ds S = rw (← v-is) (rw (ref-none v ds (untyped ds es v raw S v-type z)))
+  condition-undefined z = record { says = λ ds S. rw (← v-is) (rw (untyped F v N z ds S)) }
 
   module _ (v-some : raw ≡ 65535 → ⊥) where
-    pub condition-bad : (raw ≡ 1 → ⊥) → raw < 2 ^ 32 → ConditionGives (err (name, VerifyError.BranchConditionNotBool v (fromRaw raw)))
+    pub condition-bad : (raw ≡ 1 → ⊥) → ConditionGives (err (f .name .0, VerifyError.BranchConditionNotBool v (fromRaw raw)))
     unfolding checkCondition
-    condition-bad n b ds S =
-        let t : Typed ds v raw = typed ds es v raw S v-type v-some in
-        rw (← v-is) (rw (ref-some v ds (t .type) (t .is), other-types (t .type) IrType.BoolT raw 1 (t .raw-is) refl n) (ap (λ (x : IrType). err (name, VerifyError.BranchConditionNotBool v x)) (from-raw (t .type) raw (t .raw-is) b)))
+    condition-bad n = record {
+      says = λ ds S.
+          let t = typed F v N v-some ds S in
+          rw (← v-is) (rw (t .is, other-types (t .numbered) bool n) (ap (λ (x : IrType). err (f .name .0, VerifyError.BranchConditionNotBool v x)) (from-raw (t .numbered))));
+    }
 
     pub condition-good : raw ≡ 1 → ConditionGives (ok tt)
     unfolding checkCondition
-    condition-good e ds S =
-        let t : Typed ds v raw = typed ds es v raw S v-type v-some in
-        rw (← v-is) (rw (ref-some v ds (t .type) (t .is), same-types (t .type) IrType.BoolT raw 1 (t .raw-is) refl e))
+    condition-good e = record { says = λ ds S. let t = typed F v N v-some ds S in rw (← v-is) (rw (t .is, same-types (t .numbered) bool e)) }
 
 -- BRANCH: its value, then its blocks
-module _ (s : List ℕ) (name at q : ℕ) (ids : List ℕ) (ds : Defined) where
-  abbrev then-block : Checked Done
-  then-block = checkBlockRef (le 2 s (q + 8)) ids
+module _ (s : List ℕ) (f : Function) (q : ℕ) where
+  abbrev pub branchParts : Defined → Checked (Unit {0})
+  branchParts ds = checkCondition (le 2 s (q + fieldsAt)) ds >> (targetCheck s f (le 2 s (q + (fieldsAt + 2))) >> targetCheck s f (le 2 s (q + (fieldsAt + 4))))
 
-  abbrev else-block : Checked Done
-  else-block = checkBlockRef (le 2 s (q + 10)) ids
-
-  abbrev whole : Checked Done
-  whole = verifyTerminator (Terminator.Branch (le 2 s (q + 6)) (le 2 s (q + 8)) (le 2 s (q + 10))) (typeHere s (at + 10)) ds ids
-
-  branch-is : whole ≡ (checkCondition (le 2 s (q + 6)) ds >> (then-block >> else-block))
+  branch-is : (ds : Defined) → termCheck s f (branchHere s q) ds ≡ branchParts ds
   unfolding verifyTerminator checkCondition
-  branch-is = go (definedType (le 2 s (q + 6)) ds) refl
+  branch-is ds = go (definedType (le 2 s (q + fieldsAt)) ds) refl
     where
-      go : (o : Option IrType) → definedType (le 2 s (q + 6)) ds ≡ o → whole ≡ (checkCondition (le 2 s (q + 6)) ds >> (then-block >> else-block))
+      go : (o : Option IrType) → definedType (le 2 s (q + fieldsAt)) ds ≡ o → termCheck s f (branchHere s q) ds ≡ branchParts ds
       go none z = rw z refl
-      go (some t) z = rw z (bool (eqType t IrType.BoolT))
-        where
-          bool : (b : Bool) → (check b (VerifyError.BranchConditionNotBool (le 2 s (q + 6)) t) >> (then-block >> else-block)) ≡ (check b (VerifyError.BranchConditionNotBool (le 2 s (q + 6)) t) >> (then-block >> else-block))
-          bool b = refl
+      go (some t) z = rw z refl
 
-  pub branch-condition : {x : ℕ × VerifyError} → err x ≡ named name (checkCondition (le 2 s (q + 6)) ds) → err x ≡ named name whole
-  branch-condition h = failed-then name (checkCondition (le 2 s (q + 6)) ds) (then-block >> else-block) h ∙ sym (ap (named name) branch-is)
-
-  module _ (good : ok tt ≡ named name (checkCondition (le 2 s (q + 6)) ds)) (b : ℕ) (b-is : b ≡ le 2 s (q + 8)) where
-    blocks-left : named name (then-block >> else-block) ≡ named name whole
-    blocks-left = sym (ap (named name) branch-is ∙ passed-then name (checkCondition (le 2 s (q + 6)) ds) (then-block >> else-block) good)
-
-    pub branch-first : {x : ℕ × VerifyError} → err x ≡ named name (checkBlockRef b ids) → err x ≡ named name whole
-    branch-first h = failed-then name then-block else-block (rw b-is at h) ∙ blocks-left
-
-    pub branch-second : (c : ℕ) (x : Result (ℕ × VerifyError) Done) → c ≡ le 2 s (q + 10) → ok tt ≡ named name (checkBlockRef b ids) → x ≡ named name (checkBlockRef c ids) → x ≡ named name whole
-    branch-second c x c-is h g = (rw c-is at g) ∙ (sym (passed-then name then-block else-block (rw b-is at h)) ∙ blocks-left)
+  pub branch : {r : Outcome} → Checks s f r branchParts → Checks s f r (termCheck s f (branchHere s q))
+  branch h = record { says = λ ds S. h .says ds S ∙ sym (ap (named (f .name .0)) (branch-is ds)) }

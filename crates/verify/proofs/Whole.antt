@@ -11,8 +11,8 @@ use Rattle.definitions.specs.Records.{Good, Bad}
 use Rattle.definitions.specs.ProgramSheet.{readProgram, refusal40}
 use Rattle.definitions.specs.Verify.{VerifyError, functionIds, verifyFunctions, verifyProgram}
 use Rattle.definitions.specs.Answers.{refusal, verifyRefusal, verifySheet}
-use Rattle.verify.specs.Positions.{functionsHere, idsOfAll, FunctionsFrom}
-use Rattle.verify.proofs.Walk.{program-at}
+use Rattle.program_nodes.specs.Positions.{functionsHere, functionsOf, idsOfAll, ProgramHere}
+use Rattle.program_nodes.proofs.Functions.{program-at}
 
 module _ (s : List ℕ) where
   pub too-long : 32768 < length s → err (refusal 1 []) ≡ verifySheet s
@@ -25,11 +25,11 @@ module _ (s : List ℕ) where
     malformed p e = rw (le-leb (length s) 32768 h, ← e)
 
     module _ (e : Good ≡ refusal40 s) where
-      pub functions-there : FunctionsFrom s 6
+      pub functions-there : ProgramHere s
       functions-there = program-at s (sym e) .records
 
       abbrev answer : Result (ℕ × VerifyError) Done
-      answer = verifyFunctions (functionsHere s 6 (length s)) (idsOfAll s)
+      answer = verifyFunctions (functionsOf s) (idsOfAll s)
 
       program-is : verifyProgram (readProgram s) ≡ answer
       unfolding verifyProgram functionsHere

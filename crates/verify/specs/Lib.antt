@@ -1,3 +1,2 @@
 pub mod Answers
-pub mod Positions
-pub mod Entries
+pub mod Promises

@@ -13,7 +13,8 @@ use Rattle.definitions.specs.Grammar.{Class, upTo, optional, number, nam
 use Rattle.definitions.specs.Records.{Item, Value, row, rowIn, rowFields, Good, Tree, node, Trees, tnil, tcons, readRecords, numAt, kindIn, gather}
 use Rattle.definitions.specs.ContractSheet.{storageOf, firstE, restE, optE, exprFrom, exprOf, exprsOf, Blocks, noBlock, andBlock, firstB, restB, optB, stmtFrom, stmtOf, stmtsOf, blocksOf, addBlock, paramOf, functionOf, contractOf, noneBefore, limitTrees, refusal4}
 use Rattle.definitions.proofs.Sheets.Fits.{fitSmall, fitNone, fitSome, fitRaw, fitPair, FitItems, noItem, andItem, fitOne, fitGroup}
-use Rattle.definitions.proofs.Sheets.Passed.{picked, Fine, both-good}
+use Rattle.definitions.specs.Fine.{Fine}
+use Rattle.definitions.proofs.Sheets.Passed.{picked, both-good}
 use Rattle.definitions.proofs.Sheets.Reads.{Holds, hnil, hcons, Read, rnode, Reads, rnil, rcons, reads}
 use Rattle.definitions.specs.All.{All, anil, acons}
 use Rattle.definitions.proofs.Programs.Fits.{Id, FitsOpt}

@@ -7,7 +7,7 @@ use Prim.Native.Nat.{ℕ, _+_, _<_}
 use lib.Dec.{leb, ltb, T, lit<}
 use lib.ListN.{length}
 use Rattle.definitions.specs.Ast.{BinOp}
-use Rattle.definitions.specs.Grammar.{Class, number, Field, done, irType, listed, optional, rows, single, upTo}
+use Rattle.definitions.specs.Grammar.{Class, number, Field, done, irType, listed, optional, origin, rows, single, upTo}
 use Rattle.definitions.specs.InstrTable.{kindOf}
 use Rattle.definitions.specs.Ir.{BasicBlock, InstrNode, Instruction, IrFunction, IrProgram, Terminator}
 use Rattle.definitions.specs.ProgramSheet.{paramsAt, typesAt, blockOf, blockTree, firstOf, functionNameOf, functionNameTree, functionOf, functionTree, instrNodeOf, instrOf, instrTree, optTermTree, paramItem, programOf, programTree, termOf, valuesOf}
@@ -32,7 +32,7 @@ gather-above : {A B : Type 0} (lo hi : ℕ) (f : Tree → A) (t : B → Tree) �
 gather-above lo hi f t u v [] ts = refl
 gather-above lo hi f t u v (b ∷ l) ts = rw (u b, v b) (gather-above lo hi f t u v l ts)
 
--- what a row of the table has
+-- what a row of the table has after the origin
 abbrev pub fieldsOf : Instruction → List Field
 fieldsOf (Instruction.Const t v) = single optional ∷ single irType ∷ single (number 8) ∷ []
 fieldsOf (Instruction.Binary op t a b) = single optional ∷ single irType ∷ single (upTo 65534) ∷ single (upTo 65534) ∷ []
@@ -51,7 +51,7 @@ fieldsOf (Instruction.ContextRead k) = single optional ∷ single (upTo 2) ∷ [
 -- the one walk over the 22 kinds: where the kind lies, its row, and the instruction read back from its values
 pub data KindOk (i : Instruction) : Type 0 where
   kindOk : leb 60 (kindOf i) ≡ true → leb (kindOf i) 81 ≡ true → leb 90 (kindOf i) ≡ false → T (ltb (kindOf i) 65536)
-      → rowIn (kindOf i) rows ≡ row Class.instruction (fieldsOf i) done → ((r : Option ℕ) → instrOf (kindOf i) (item (opt r) ∷ valuesOf i) ≡ i) → KindOk i
+      → rowIn (kindOf i) rows ≡ row Class.instruction (origin ∷ fieldsOf i) done → ((r : Option ℕ) → instrOf (kindOf i) (item (opt r) ∷ valuesOf i) ≡ i) → KindOk i
 
 pub kind-ok : (i : Instruction) → KindOk i
 unfolding rowIn rows
@@ -90,7 +90,7 @@ no-term i = elim (kind-ok i) [ kindOk a b c d e f ↦ c ]
 pub kind-fits : (i : Instruction) → kindOf i < 65536
 kind-fits i = elim (kind-ok i) [ kindOk a b c d e f ↦ lit< d ]
 
-pub row-is : (i : Instruction) → rowIn (kindOf i) rows ≡ row Class.instruction (fieldsOf i) done
+pub row-is : (i : Instruction) → rowIn (kindOf i) rows ≡ row Class.instruction (origin ∷ fieldsOf i) done
 row-is i = elim (kind-ok i) [ kindOk a b c d e f ↦ e ]
 
 pub instr-back : (r : Option ℕ) (i : Instruction) → instrOf (kindOf i) (item (opt r) ∷ valuesOf i) ≡ i

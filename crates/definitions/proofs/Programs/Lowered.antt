@@ -19,7 +19,7 @@ use Rattle.definitions.specs.Verify.{blockIds}
 use Rattle.definitions.proofs.Results.{by-test, ok-inj, taking}
 use Rattle.definitions.proofs.Runs.Safe.{callees, In, here, there, in-nil, in-left, in-right, withResult, Ok, heldAfter, targets, entryHeld, BlockOk, ids, GoodFn, find-hit, find-miss}
 use Rattle.definitions.proofs.Runs.Blocks.{results, defs, Distinct, found-in}
-use Rattle.definitions.proofs.Runs.Expressions.{fns}
+use Rattle.definitions.proofs.Runs.Keeping.{fns}
 use Rattle.definitions.proofs.Runs.Functions.{FnOk, function-ok}
 use Rattle.definitions.specs.All.{All, anil, acons}
 use Rattle.definitions.proofs.Programs.Fits.{Id, FitsType, FitsOpt, FitsInstr, FitsTerm, FitsNode, FitsBlock, FitsFunction, Fits}

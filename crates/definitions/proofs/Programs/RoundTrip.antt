@@ -7,9 +7,9 @@ use native.Mathlib.Nat.{sub-zero}
 use native.Mathlib.Omega.{arith}
 use lib.Dec.{lit<}
 use lib.ListN.{length, length-map}
-use Rattle.definitions.specs.Grammar.{number, Class, Entry, Pattern, done, irType, listed, many, one, optional, perhaps, rows, single, upTo, valueAndType}
+use Rattle.definitions.specs.Grammar.{number, Class, Entry, Pattern, done, irType, listed, many, one, optional, origin, perhaps, rows, single, upTo, valueAndType}
 use Rattle.definitions.specs.Ir.{BasicBlock, InstrNode, Instruction, IrFunction, IrProgram, IrType, Terminator}
-use Rattle.definitions.specs.ProgramSheet.{blockTree, functionNameTree, functionTree, instrTree, optTermTree, paramItem, programOf, programTree, readProgram, refusal40, valuesOf, writeProgram}
+use Rattle.definitions.specs.ProgramSheet.{blockTree, functionNameTree, functionTree, instrTree, noOrigin, optTermTree, paramItem, programOf, programTree, readProgram, refusal40, valuesOf, writeProgram}
 use Rattle.definitions.specs.Records.{Good, Item, Tree, Trees, after, checkRecords, item, left, mayEnd, opt, readRecords, rest, rowIn, sizeOf, small, tcons, tnil, treesOf, ty, word, writeTree}
 use Rattle.definitions.proofs.Sheets.Fits.{FitItem, fitSmall, fitNone, fitSome, fitRaw, fitType, fitParam, FitItems, noItem, andItem, FitValue, fitOne, fitGroup, FitValues, noValue, andValue, lastRest, FitTree, fitNode, FitTrees, noTree, andTree}
 use Rattle.definitions.specs.All.{All, anil, acons}
@@ -32,6 +32,9 @@ tyV h = fitOne (fitType h)
 
 rawV : {w n : ℕ} → n < 256 ^ w → FitValue (single (number w)) (item (word w n))
 rawV h = fitOne (fitRaw h)
+
+originV : FitValue origin noOrigin
+originV = rawV (lit< tt)
 
 optV : (o : Option ℕ) → FitsOpt o → FitValue (single optional) (item (opt o))
 optV none h = fitOne fitNone
@@ -62,7 +65,7 @@ values-fit (Instruction.ContextRead k) r o h = let b : k < 65536 = omega arith i
 
 node-fits : (n : InstrNode) → FitsNode n → FitTree Class.instruction (instrTree n)
 unfolding mayEnd
-node-fits n h = fitNode (row-is (n .instr)) (kind-fits (n .instr)) (values-fit (n .instr) (n .result) (h .result) (h .instr)) (noTree refl)
+node-fits n h = fitNode (row-is (n .instr)) (kind-fits (n .instr)) (andValue originV (values-fit (n .instr) (n .result) (h .result) (h .instr))) (noTree refl)
 
 -- a list of records under a pattern: q before the first, q' after it
 trees-fit : {A : Type 0} {P : A → Type 0} (c : Class) (t : A → Tree) (q q' : Pattern) → after q c ≡ left q' → after q' c ≡ left q' → ((a : A) → P a → FitTree c (t a))
@@ -76,10 +79,10 @@ inBlock = many Class.instruction (perhaps Class.terminator done)
 term-fits : (o : Option Terminator) → FitsTerm o → FitTrees inBlock (optTermTree o)
 unfolding after mayEnd rows rowIn
 term-fits none h = noTree refl
-term-fits (some (Terminator.Jump b)) h = andTree refl (fitNode refl (lit< tt) (andValue (idV h) noValue) (noTree refl)) (noTree refl)
-term-fits (some (Terminator.Branch c a b)) h = andTree refl (fitNode refl (lit< tt) (andValue (idV (h .0)) (andValue (idV (h .1)) (andValue (idV (h .2)) noValue))) (noTree refl)) (noTree refl)
-term-fits (some (Terminator.Return v)) h = andTree refl (fitNode refl (lit< tt) (andValue (optV v h) noValue) (noTree refl)) (noTree refl)
-term-fits (some Terminator.Unreachable) h = andTree refl (fitNode refl (lit< tt) noValue (noTree refl)) (noTree refl)
+term-fits (some (Terminator.Jump b)) h = andTree refl (fitNode refl (lit< tt) (andValue originV (andValue (idV h) noValue)) (noTree refl)) (noTree refl)
+term-fits (some (Terminator.Branch c a b)) h = andTree refl (fitNode refl (lit< tt) (andValue originV (andValue (idV (h .0)) (andValue (idV (h .1)) (andValue (idV (h .2)) noValue)))) (noTree refl)) (noTree refl)
+term-fits (some (Terminator.Return v)) h = andTree refl (fitNode refl (lit< tt) (andValue originV (andValue (optV v h) noValue)) (noTree refl)) (noTree refl)
+term-fits (some Terminator.Unreachable) h = andTree refl (fitNode refl (lit< tt) (andValue originV noValue) (noTree refl)) (noTree refl)
 
 block-fits : (b : BasicBlock) → FitsBlock b → FitTree Class.basicBlock (blockTree b)
 unfolding after rows rowIn

@@ -2,14 +2,16 @@
 use mathlib.Core.Path.{_≡_, refl, ap, ap₂, sym, _∙_}
 use mathlib.Core.Bool.{true, false}
 use mathlib.Core.List.{List, [], _∷_, _++_, map, append-nil}
-use Prim.Native.Nat.{ℕ}
+use Prim.Native.Nat.{ℕ, _<_, _^_}
+use native.Mathlib.Omega.{arith}
 use lib.Dec.{leb}
 use lib.ListN.{length}
-use Rattle.definitions.specs.Grammar.{Class, upTo, irType, valueAndType, single, counted, Field, Pattern, done, one, perhaps, many, rows}
+use Rattle.definitions.specs.Grammar.{Class, upTo, irType, valueAndType, single, counted, Field, Pattern, done, one, perhaps, many, origin, rows}
 use Rattle.definitions.specs.Ir.{Instruction, Terminator}
 use Rattle.definitions.specs.Records.{Item, small, ty, numberOf, typeOf, Tree, node, Trees, tnil, tcons, writeRecord, writeTree, writeTrees, writeValues, readRecords, kindIn, gather, treesOf}
-use Rattle.definitions.specs.ProgramSheet.{instrTree, termTree, optTermTree, blockTree, paramItem, functionTree, functionNameTree, programTree, writeProgram, instrNodeOf, termOf, firstOf, blockOf, functionOf, functionNameOf, programOf, readProgram, refusal40, NothingOverlookedInPrograms}
-use Rattle.definitions.proofs.Sheets.Fits.{FitItems}
+use Rattle.definitions.specs.ProgramSheet.{noOrigin, instrTree, termTree, optTermTree, blockTree, paramItem, functionTree, functionNameTree, programTree, writeProgram, instrNodeOf, termOf, firstOf, blockOf, functionOf, functionNameOf, programOf, readProgram, refusal40, NothingOverlookedInPrograms}
+use Rattle.definitions.proofs.Sheets.Fits.{FitItems, fitRaw, fitOne}
+use Rattle.definitions.proofs.Sheets.Reads.{hcons}
 use Rattle.definitions.proofs.Sheets.Lines.{OfRows, Given, by-lines, Follows, over, next, skip, take, end, more}
 use Rattle.definitions.proofs.Sheets.Again.{Shaped, shaped, items-back, Step, follow, written}
 use Rattle.definitions.proofs.Programs.Back.{low, high, no-term}
@@ -75,44 +77,47 @@ types-back h = items-back irType ty typeOf (λ t. refl) h
 leaf : (c : Class) (k : ℕ) {fs : List Field} → ((at : ℕ) → Shaped fs (λ v. Back c (node at k v tnil))) → Remade c k fs done
 leaf c k g at v _ h over = shaped (λ w. Back c (node at k w tnil)) h (g at)
 
--- INSTRUCTIONS AND TERMINATORS
+-- INSTRUCTIONS AND TERMINATORS, whatever their own fields hold
+own : (c : Class) (k : ℕ) {fs : List Field} → ((at : ℕ) → Shaped fs (λ v. Back c (node at k (noOrigin ∷ v) tnil))) → Remade c k (origin ∷ fs) done
+own c k g at v _ (hcons (fitOne (fitRaw {n = n} l)) h) over = let z : n ≡ 0 = omega arith in rw z (shaped (λ w. Back c (node at k (noOrigin ∷ w) tnil)) h (g at))
+
 instr-rows : OfRows Remade Class.instruction rows
 unfolding again bareTree Given rows
 instr-rows =
     let I : Class = Class.instruction in
     by-lines Remade I rows
-    (leaf I 60 (λ at r t n. refl))  -- Const
-    (leaf I 61 (λ at r t a b. refl))  -- Add
-    (leaf I 62 (λ at r t a b. refl))  -- Sub
-    (leaf I 63 (λ at r t a b. refl))  -- Mul
-    (leaf I 64 (λ at r t a b. refl))  -- Div
-    (leaf I 65 (λ at r t a b. refl))  -- IrEq
-    (leaf I 66 (λ at r t a b. refl))  -- IrNe
-    (leaf I 67 (λ at r t a b. refl))  -- Lt
-    (leaf I 68 (λ at r t a b. refl))  -- Le
-    (leaf I 69 (λ at r t a b. refl))  -- Gt
-    (leaf I 70 (λ at r t a b. refl))  -- Ge
-    (leaf I 71 (λ at r t b o. refl))  -- Load
-    (leaf I 72 (λ at r b o v. refl))  -- Store
-    (leaf I 73 (λ at r t s. refl))  -- StateRead
-    (leaf I 74 (λ at r s v. refl))  -- StateWrite
-    (leaf I 75 (λ at r l t. refl))  -- ReadLocal
-    (leaf I 76 (λ at r l v. refl))  -- WriteLocal
-    (leaf I 77 (λ at r f t as' h. rw (ids-back h)))  -- Call
-    (leaf I 78 (λ at r c. refl))  -- Assert
-    (leaf I 79 (λ at r a b. refl))  -- Poseidon
-    (leaf I 80 (λ at r e as' h. rw (ids-back h)))  -- Emit
-    (leaf I 81 (λ at r k. refl))  -- ContextRead
+    (own I 60 (λ at r t n. refl))  -- Const
+    (own I 61 (λ at r t a b. refl))  -- Add
+    (own I 62 (λ at r t a b. refl))  -- Sub
+    (own I 63 (λ at r t a b. refl))  -- Mul
+    (own I 64 (λ at r t a b. refl))  -- Div
+    (own I 65 (λ at r t a b. refl))  -- IrEq
+    (own I 66 (λ at r t a b. refl))  -- IrNe
+    (own I 67 (λ at r t a b. refl))  -- Lt
+    (own I 68 (λ at r t a b. refl))  -- Le
+    (own I 69 (λ at r t a b. refl))  -- Gt
+    (own I 70 (λ at r t a b. refl))  -- Ge
+    (own I 71 (λ at r t b o. refl))  -- Load
+    (own I 72 (λ at r b o v. refl))  -- Store
+    (own I 73 (λ at r t s. refl))  -- StateRead
+    (own I 74 (λ at r s v. refl))  -- StateWrite
+    (own I 75 (λ at r l t. refl))  -- ReadLocal
+    (own I 76 (λ at r l v. refl))  -- WriteLocal
+    (own I 77 (λ at r f t as' h. rw (ids-back h)))  -- Call
+    (own I 78 (λ at r c. refl))  -- Assert
+    (own I 79 (λ at r a b. refl))  -- Poseidon
+    (own I 80 (λ at r e as' h. rw (ids-back h)))  -- Emit
+    (own I 81 (λ at r k. refl))  -- ContextRead
 
 term-rows : OfRows Remade Class.terminator rows
 unfolding again bareTree Given rows
 term-rows =
     let T : Class = Class.terminator in
     by-lines Remade T rows
-    (leaf T 90 (λ at b. refl))  -- Jump
-    (leaf T 91 (λ at c a b. refl))  -- Branch
-    (leaf T 92 (λ at v. refl))  -- Return
-    (leaf T 93 (λ at. refl))  -- Unreachable
+    (own T 90 (λ at b. refl))  -- Jump
+    (own T 91 (λ at c a b. refl))  -- Branch
+    (own T 92 (λ at v. refl))  -- Return
+    (own T 93 (λ at. refl))  -- Unreachable
 
 term-kind : (t : Terminator) → (leb 60 (kindIn (termTree t)) ≡ true) × (leb (kindIn (termTree t)) 81 ≡ false) × (leb 90 (kindIn (termTree t)) ≡ true) × (leb (kindIn (termTree t)) 93 ≡ true)
 term-kind (Terminator.Jump b) = (refl, refl, refl, refl)

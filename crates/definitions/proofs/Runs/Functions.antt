@@ -3,21 +3,23 @@ use Prim.Native.Nat.{ℕ, suc, _<_, _≤_, _+_}
 use mathlib.Core.Path.{_≡_, refl, sym, _∙_, subst}
 use mathlib.Core.List.{List, List·Memᴰ, List·Memᴰ·head, List·Memᴰ·tail, [], _∷_}
 use mathlib.Core.Option.{none}
+use lib.Dec.{ltb}
 use lib.ListN.{length}
 use native.Mathlib.Omega.{arith}
 use borrow.Author.Tests.{eq-eqb, ne-eqb}
 use Rattle.definitions.specs.Ast.{Param, Contract, Function}
-use Rattle.definitions.specs.Ir.{IrFunction, IrProgram, IrType, Terminator}
-use Rattle.definitions.specs.Lower.{FnCtx, Value, defined, emptyBlock, freshValue, initLocal, irFunction, lowerContract, lowerFunction, lowerFunctions, lowerParams, lowerStmts, newCtx, parseIrType, setScopes, terminateIfOpen}
+use Rattle.definitions.specs.Ir.{Instruction, IrFunction, IrProgram, IrType, Terminator}
+use Rattle.definitions.specs.Lower.{FnCtx, LoweringError, Value, defined, emptyBlock, freshLocal, freshValue, initLocal, irFunction, lowerContract, lowerFunction, lowerFunctions, lowerParams, lowerStmts, newCtx, parseIrType, pushInstr, setScopes, terminateIfOpen, withLocal}
 use Rattle.definitions.specs.Result.{ok}
 use Rattle.definitions.specs.Run.{Pick, lacks, run}
 use Rattle.definitions.specs.Verify.{blockIds}
-use Rattle.definitions.proofs.Results.{ok-inj, taking, some-none}
+use Rattle.definitions.proofs.Results.{by-test, ok-inj, taking, some-none}
 use Rattle.definitions.proofs.Runs.Safe.{In, here, there, Sub, sub-refl, sub-trans, sub-cons, sub-nil, in-nil, sub-pair, ids, GoodFn, find-hit, find-miss, never-lacks}
-use Rattle.definitions.proofs.Runs.Blocks.{defs, Distinct, only}
+use Rattle.definitions.proofs.Runs.Blocks.{defs, Distinct, only, defs-none}
 use Rattle.definitions.proofs.Runs.Invariant.{Inv, weaken, opening, scopes-keep}
-use Rattle.definitions.proofs.Runs.Expressions.{localsOf, fns}
-use Rattle.definitions.proofs.Runs.Statements.{hold-keeps, Moved, return-ok, close-keeps, stmts-keep, defined-in}
+use Rattle.definitions.proofs.Runs.Keeping.{fns, hold-inv, Stands, stands-kept}
+use Rattle.definitions.proofs.Traversal.Keeps.{Post, bad, good, given, Known}
+use Rattle.definitions.proofs.Traversal.Lowering.{localsOf, defined-in, body-keeps}
 
 -- ---- the start
 start-inv : (F : ℕ) (ps : List ℕ) (i : ℕ) → Inv F 0 ps (λ k. []) (0 ∷ []) ps [] (newCtx i)
@@ -39,9 +41,24 @@ unfolding freshValue
 take-keeps plain I = record { built = I .built; opens = I .opens; spot = I .spot; values = record { distinct = I .values .distinct; range = λ v h. absurd (in-nil (rw plain at h)); after = omega arith; few = omega arith; blocks = I .values .blocks } }
 
 -- ---- the parameters: no value is defined by a block yet
+-- a parameter's local, written at once
+record Hold (F m : ℕ) (ps : List ℕ) (cert : ℕ → List ℕ) (Q H W : List ℕ) (c : FnCtx) (q : FnCtx × ℕ) : Type 0 where
+  inv : Inv F m ps cert Q H (q .1 ∷ W) (q .0)
+  scopes : q .0 .scopes ≡ c .scopes
+  currentBlock : q .0 .currentBlock ≡ c .currentBlock
+  values : defs (q .0 .blocks) ≡ defs (c .blocks)
+  nextValue : q .0 .nextValue ≡ c .nextValue
+
+hold-keeps : {F m : ℕ} {ps : List ℕ} {cert : ℕ → List ℕ} {Q H W : List ℕ} {c : FnCtx} (t : IrType) (v : ℕ) → In v H → Inv F m ps cert Q H W c → Post (Hold F m ps cert Q H W c) (initLocal t v c)
+unfolding initLocal freshLocal withLocal pushInstr
+hold-keeps {c = c} t v i I =
+    by-test (ltb (length (c .locals)) 256)
+    (λ q. rw (q, freshLocal) (good _ (record { inv = hold-inv t v i I; scopes = refl; currentBlock = refl; values = defs-none (c .currentBlock) (Instruction.WriteLocal (length (c .locals)) v) (c .blocks); nextValue = refl })))
+    (λ q. rw (q, freshLocal) (bad (LoweringError.TooManyBlocksOrLocals (c .fid))))
+
 pub record Begun (F : ℕ) (ps : List ℕ) (H : List ℕ) (c : FnCtx) (q : FnCtx × List Value) : Type 0 where
-  pub W′ : List ℕ
-  pub inv : Inv F (q .0 .nextValue) ps (λ k. []) (0 ∷ []) H W′ (q .0)
+  pub W′ : List Value
+  pub inv : Inv F (q .0 .nextValue) ps (λ k. []) (0 ∷ []) H (ids W′) (q .0)
   pub counted : q .0 .nextValue ≤ c .nextValue + length (q .1)
   pub scoped : Sub (localsOf (q .0 .scopes)) W′
   pub currentBlock : q .0 .currentBlock ≡ 0
@@ -50,7 +67,7 @@ pub record Begun (F : ℕ) (ps : List ℕ) (H : List ℕ) (c : FnCtx) (q : FnCtx
   pub distinct : Distinct (ids (q .1))
   pub grows : c .nextValue ≤ q .0 .nextValue
 
-params-begin : (F : ℕ) (ps : List ℕ) (l : List Param) (H W : List ℕ) (c : FnCtx) (q : FnCtx × List Value) → lowerParams l c ≡ ok q → Sub (ids (q .1)) H → Sub (localsOf (c .scopes)) W → c .currentBlock ≡ 0 → defs (c .blocks) ≡ [] → Inv F (c .nextValue) ps (λ k. []) (0 ∷ []) H W c → Begun F ps H c q
+params-begin : (F : ℕ) (ps : List ℕ) (l : List Param) (H : List ℕ) (W : List Value) (c : FnCtx) (q : FnCtx × List Value) → lowerParams l c ≡ ok q → Sub (ids (q .1)) H → Sub (localsOf (c .scopes)) W → c .currentBlock ≡ 0 → defs (c .blocks) ≡ [] → Inv F (c .nextValue) ps (λ k. []) (0 ∷ []) H (ids W) c → Begun F ps H c q
 unfolding lowerParams setScopes freshValue
 params-begin F ps [] H W c q e sub sc cur plain I = subst (Begun F ps H c) (ok-inj e) (record { W′ = W; inv = I; counted = omega arith; scoped = sc; currentBlock = cur; plain = plain; range = λ v h. absurd (in-nil h); distinct = tt; grows = omega arith })
 params-begin F ps (p ∷ l) H W c q e sub sc cur plain I =
@@ -65,11 +82,11 @@ params-begin F ps (p ∷ l) H W c q e sub sc cur plain I =
     after x = setScopes (defined (p .name) (x .1) t (x .0 .scopes)) (x .0)
 
     more : (x : FnCtx × ℕ) → initLocal t (c .nextValue) (freshValue c) ≡ ok x → (r : FnCtx × List Value) → lowerParams l (after x) ≡ ok r → (r .0, (c .nextValue, t) ∷ r .1) ≡ q
-        → ((H W : List ℕ) → Sub (ids (r .1)) H → Sub (localsOf (after x .scopes)) W → after x .currentBlock ≡ 0 → defs (after x .blocks) ≡ [] → Inv F (after x .nextValue) ps (λ k. []) (0 ∷ []) H W (after x) → Begun F ps H (after x) r) → Begun F ps H c q
+        → ((H : List ℕ) (W : List Value) → Sub (ids (r .1)) H → Sub (localsOf (after x .scopes)) W → after x .currentBlock ≡ 0 → defs (after x .blocks) ≡ [] → Inv F (after x .nextValue) ps (λ k. []) (0 ∷ []) H (ids W) (after x) → Begun F ps H (after x) r) → Begun F ps H c q
     more x ex r er eq below =
         let s : Sub (c .nextValue ∷ ids (r .1)) H = subst (λ (z : FnCtx × List Value). Sub (ids (z .1)) H) (sym eq) sub in
-        let h = hold-keeps t (c .nextValue) x ex (s (c .nextValue) (here refl)) (take-keeps plain I) in
-        let B = below H (x .1 ∷ W) (λ v i. s v (there i)) (sub-trans (defined-in (p .name) (x .1) t (x .0 .scopes)) (sub-cons (rw (h .same .scopes) sc))) (h .same .currentBlock ∙ cur) (h .values ∙ plain) (subst (λ (k : ℕ). Inv F k ps (λ k. []) (0 ∷ []) H (x .1 ∷ W) (after x)) (sym (h .nextValue)) (scopes-keep (defined (p .name) (x .1) t (x .0 .scopes)) (h .inv))) in
+        let h = given (hold-keeps t (c .nextValue) (s (c .nextValue) (here refl)) (take-keeps plain I)) ex in
+        let B = below H ((x .1, t) ∷ W) (λ v i. s v (there i)) (sub-trans (defined-in (p .name) (x .1) t (x .0 .scopes)) (sub-cons (rw (h .scopes) sc))) (h .currentBlock ∙ cur) (h .values ∙ plain) (subst (λ (k : ℕ). Inv F k ps (λ k. []) (0 ∷ []) H (x .1 ∷ ids W) (after x)) (sym (h .nextValue)) (scopes-keep (defined (p .name) (x .1) t (x .0 .scopes)) (h .inv))) in
         let nv : x .0 .nextValue ≡ suc (c .nextValue) = h .nextValue in
         let g : x .0 .nextValue ≤ r .0 .nextValue = B .grows in
         subst (Begun F ps H c) eq (record { W′ = B .W′; inv = B .inv; counted = omega (arith, B .counted); scoped = B .scoped; currentBlock = B .currentBlock; plain = B .plain; range = λ v i. rng v i (x .0 .nextValue) nv g (B .range); distinct = (λ i. omega (arith, B .range (c .nextValue) i), B .distinct); grows = omega arith })
@@ -105,14 +122,15 @@ function-ok K i f g e =
     subst (FnOk (fns K) i) (ok-inj e₂) (made p c ec (params-begin (fns K) (ids (p .1)) (f .params) (ids (p .1)) [] (newCtx i) p ep sub-refl sub-nil refl refl (start-inv (fns K) (ids (p .1)) i)))
   where
     made : (p : FnCtx × List Value) (c : FnCtx) → lowerStmts K (f .body) (p .0) ≡ ok c → Begun (fns K) (ids (p .1)) (ids (p .1)) (newCtx i) p → FnOk (fns K) i (irFunction i f (p .1) (terminateIfOpen (Terminator.Return none) c))
-    made p c ec B = ends (stmts-keep K (p .0 .nextValue) (ids (p .1)) (f .body) (λ k. []) [] (B .W′) (p .0) c ec (B .scoped) (opening (sub-pair (here (B .currentBlock)) sub-nil) (weaken sub-nil sub-refl (B .inv))))
+    made p c ec B =
+        let start : Stands K (p .0 .nextValue) (ids (p .1)) [] (0 ∷ []) [] (B .W′) (p .0) = record { cert = λ k. []; inv = weaken sub-nil sub-refl (B .inv); entry = refl; known = λ k h. absurd (in-nil h) } in
+        ends (given (body-keeps K ⊥ (Stands K (p .0 .nextValue) (ids (p .1))) (stands-kept K (p .0 .nextValue) (ids (p .1))) (f .body) (λ s. absurd s) (p .0) (B .currentBlock) (B .scoped) start) ec .inv)
       where
-        ends : Moved (fns K) (p .0 .nextValue) (ids (p .1)) (λ k. []) [] (B .W′) (p .0) c → FnOk (fns K) i (irFunction i f (p .1) (terminateIfOpen (Terminator.Return none) c))
-        ends M =
-            let Z = close-keeps (Terminator.Return none) (return-ok none sub-nil) (M .inv) in
+        ends : {k : List Known} → Stands K (p .0 .nextValue) (ids (p .1)) k [] [] [] (terminateIfOpen (Terminator.Return none) c) → FnOk (fns K) i (irFunction i f (p .1) (terminateIfOpen (Terminator.Return none) c))
+        ends Z =
             record {
               id = refl;
-              good = good-of f (M .agree 0 (omega (arith, B .inv .spot .inside))) (Z .inv);
+              good = good-of f (Z .entry) (Z .inv);
               last = p .0 .nextValue;
               params-low = λ v h. B .range v h .1;
               few-params = omega (arith, B .counted);

@@ -30,52 +30,52 @@ callees (Instruction.Emit e a) = []
 callees (Instruction.ContextRead k) = []
 
 -- ---- membership
-pub data In (v : ℕ) : List ℕ → Type 0 where
-  here : {x : ℕ} {xs : List ℕ} → x ≡ v → In v (x ∷ xs)
-  there : {x : ℕ} {xs : List ℕ} → In v xs → In v (x ∷ xs)
+pub data In {A : Type 0} (v : A) : List A → Type 0 where
+  here : {x : A} {xs : List A} → x ≡ v → In v (x ∷ xs)
+  there : {x : A} {xs : List A} → In v xs → In v (x ∷ xs)
 
-abbrev pub Sub : List ℕ → List ℕ → Type 0
-Sub a b = (v : ℕ) → In v a → In v b
+abbrev pub Sub : {A : Type 0} → List A → List A → Type 0
+Sub {A} a b = (v : A) → In v a → In v b
 
-pub sub-refl : {a : List ℕ} → Sub a a
+pub sub-refl : {A : Type 0} {a : List A} → Sub a a
 sub-refl v h = h
 
-pub sub-trans : {a b c : List ℕ} → Sub a b → Sub b c → Sub a c
+pub sub-trans : {A : Type 0} {a b c : List A} → Sub a b → Sub b c → Sub a c
 sub-trans f g v h = g v (f v h)
 
-pub sub-there : {a b : List ℕ} {x : ℕ} → Sub a b → Sub a (x ∷ b)
+pub sub-there : {A : Type 0} {a b : List A} {x : A} → Sub a b → Sub a (x ∷ b)
 sub-there f v h = there (f v h)
 
-pub sub-cons : {a b : List ℕ} {x : ℕ} → Sub a b → Sub (x ∷ a) (x ∷ b)
+pub sub-cons : {A : Type 0} {a b : List A} {x : A} → Sub a b → Sub (x ∷ a) (x ∷ b)
 sub-cons f v (here e) = here e
 sub-cons f v (there h) = there (f v h)
 
-pub sub-nil : {b : List ℕ} → Sub [] b
+pub sub-nil : {A : Type 0} {b : List A} → Sub [] b
 sub-nil v h = elim h [ ]
 
-pub in-nil : {v : ℕ} → In v [] → ⊥
+pub in-nil : {A : Type 0} {v : A} → In v [] → ⊥
 in-nil h = elim h [ ]
 
-pub sub-pair : {a b : List ℕ} {x : ℕ} → In x b → Sub a b → Sub (x ∷ a) b
-sub-pair {b = b} h f v (here e) = subst (λ (y : ℕ). In y b) e h
+pub sub-pair : {A : Type 0} {a b : List A} {x : A} → In x b → Sub a b → Sub (x ∷ a) b
+sub-pair {A} {b = b} h f v (here e) = subst (λ (y : A). In y b) e h
 sub-pair h f v (there i) = f v i
 
-pub sub-one : {b : List ℕ} {x : ℕ} → In x b → Sub (x ∷ []) b
+pub sub-one : {A : Type 0} {b : List A} {x : A} → In x b → Sub (x ∷ []) b
 sub-one h = sub-pair h sub-nil
 
-pub in-one : (P : ℕ → Type 0) {x v : ℕ} → P x → In v (x ∷ []) → P v
+pub in-one : {A : Type 0} (P : A → Type 0) {x v : A} → P x → In v (x ∷ []) → P v
 in-one P p (here e) = subst P e p
 in-one P p (there h) = absurd (in-nil h)
 
-pub in-left : (a b : List ℕ) (v : ℕ) → In v a → In v (a ++ b)
+pub in-left : {A : Type 0} (a b : List A) (v : A) → In v a → In v (a ++ b)
 in-left (x ∷ a) b v (here e) = here e
 in-left (x ∷ a) b v (there h) = there (in-left a b v h)
 
-pub in-right : (a b : List ℕ) (v : ℕ) → In v b → In v (a ++ b)
+pub in-right : {A : Type 0} (a b : List A) (v : A) → In v b → In v (a ++ b)
 in-right [] b v h = h
 in-right (x ∷ a) b v h = there (in-right a b v h)
 
-pub in-either : (a b : List ℕ) (v : ℕ) → In v (a ++ b) → In v a ⊎ In v b
+pub in-either : {A : Type 0} (a b : List A) (v : A) → In v (a ++ b) → In v a ⊎ In v b
 in-either [] b v h = inr h
 in-either (x ∷ a) b v (here e) = inl (here e)
 in-either (x ∷ a) b v (there h) = lift (in-either a b v h)
@@ -84,7 +84,7 @@ in-either (x ∷ a) b v (there h) = lift (in-either a b v h)
     lift (inl y) = inl (there y)
     lift (inr y) = inr y
 
-pub sub-append : (a : List ℕ) {b c : List ℕ} → Sub b c → Sub (a ++ b) (a ++ c)
+pub sub-append : {A : Type 0} (a : List A) {b c : List A} → Sub b c → Sub (a ++ b) (a ++ c)
 sub-append [] f = f
 sub-append (x ∷ a) f = sub-cons (sub-append a f)
 

@@ -18,7 +18,7 @@ use Rattle.definitions.specs.Run.{termReads}
 use Rattle.definitions.proofs.Results.{by-test, ok-inj, taking}
 use Rattle.definitions.proofs.Runs.Safe.{callees, In, here, there, Sub, sub-refl, sub-trans, sub-nil, in-nil, sub-pair, in-left, in-right, in-either, withResult, Ok, heldAfter, writtenAfter, TermOk, entryHeld, BlockOk, ids, GoodFn, find-hit, find-miss}
 use Rattle.definitions.proofs.Runs.Blocks.{results, defs, Distinct, found-in}
-use Rattle.definitions.proofs.Runs.Expressions.{fns}
+use Rattle.definitions.proofs.Runs.Keeping.{fns}
 use Rattle.definitions.proofs.Runs.Functions.{FnOk, Each, none-left, one-more, contract-ok}
 
 -- 45, 46 and 47

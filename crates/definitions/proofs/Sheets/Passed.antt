@@ -10,6 +10,7 @@ use lib.Dec.{leb, eqb}
 use borrow.Author.Tests.{leb-true, eqb-true, eq-eqb, ne-eqb}
 use Rattle.definitions.specs.Fields.{le}
 use Rattle.definitions.specs.Grammar.{Class, Entry, Field, Pattern, counted, listed, rows, single}
+use Rattle.definitions.specs.Fine.{Head, Fine, ends, goes}
 use Rattle.definitions.specs.Records.{Bad, Form, Good, Next, Row, Start, Trees, after, andThen, checkRest, fieldEnd, fieldsEnd, left, mayEnd, noRow, node, nothing, okField, okItems, past, pastAll, pick, readNode, readRecords, readValues, recordsFrom, refused, row, rowFields, rowIn, sizeOf, startAt, startIf, startRow, starts, tcons, tnil, treesFrom}
 use Rattle.definitions.proofs.Results.{some-none, by-test}
 
@@ -72,16 +73,7 @@ all-past (f ∷ fs) s stop at b e h =
     let i : Ends fs s stop (fieldEnd f s stop at) b = all-past fs s stop (fieldEnd f s stop at) b (a .1) (w .1) in
     record { is = i .is; low = omega (arith, w .0, i .low); high = i .high }
 
--- a record that starts at a place: its row, and where its children start and it stops
-pub record Head (s : List ℕ) (at end : ℕ) (c : Class) (fs : List Field) (p : Pattern) (b stop : ℕ) : Type 0 where
-  pub is : rowIn (le 2 s (at + 4)) rows ≡ row c fs p
-  pub stop-is : stop ≡ at + le 4 s at
-  pub valid : pastAll fs s stop (at + 6) ≡ some b
-  pub body-is : b ≡ fieldsEnd fs s stop (at + 6)
-  pub low : at + 6 ≤ b
-  pub mid : b ≤ stop
-  pub high : stop ≤ end
-
+-- a record opened, or none
 pub data Opened (s : List ℕ) (at end : ℕ) (q : Pattern) : Start → Type 0 where
   shut : Opened s at end q nothing
   open' : {c : Class} {fs : List Field} {p r : Pattern} {b stop : ℕ} → Head s at end c fs p b stop → after q c ≡ left r → Opened s at end q (starts b stop p r)
@@ -133,11 +125,7 @@ bound-enough (suc n) (suc m) s at end q hn hm = go (eqb at end) refl (λ b p i h
     go true z below = rw (z, recordsFrom)
     go false z below = rw (z, recordsFrom) (step (startAt s at end q) (opened s at end q) below)
 
--- the check passed, as a proof tree
-pub data Fine (s : List ℕ) : ℕ → ℕ → Pattern → Type 0 where
-  ends : {at end : ℕ} {q : Pattern} → at ≡ end → mayEnd q ≡ true → Fine s at end q
-  goes : {at end b stop : ℕ} {q r p : Pattern} {c : Class} {fs : List Field} → Head s at end c fs p b stop → after q c ≡ left r → Fine s b stop p → Fine s stop end r → Fine s at end q
-
+-- a check that passed is a proof tree
 pub bad-good : {p : ℕ} → Bad p ≡ Good → ⊥
 bad-good e = let z : _≡_ {A = ℕ} 0 1 = cc in omega arith
 

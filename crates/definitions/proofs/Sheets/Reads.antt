@@ -15,7 +15,8 @@ use Rattle.definitions.specs.Ir.{IrType, nameOf}
 use Rattle.definitions.specs.Records.{after, left, mayEnd, Item, Tree, Trees, Value, fieldEnd, node, okField, okItem, okItems, okType, opt, optFrom, pastAll, pick, readItem, readItems, readRecords, readValue, readValues, rest, row, rowIn, sizeOf, tcons, tnil, typeFrom}
 use Rattle.definitions.proofs.Fields.{le-low}
 use Rattle.definitions.proofs.Sheets.Fits.{FitItem, fitSmall, fitNone, fitSome, fitRaw, fitType, fitParam, fitPair, FitItems, noItem, andItem, FitValue, fitOne, fitGroup}
-use Rattle.definitions.proofs.Sheets.Passed.{picked, both-true, counted-ok, first-past, Fine, ends, goes, read-end, read-step}
+use Rattle.definitions.specs.Fine.{Fine, ends, goes}
+use Rattle.definitions.proofs.Sheets.Passed.{picked, both-true, counted-ok, first-past, read-end, read-step}
 
 abbrev LowName : IrType → Type 0
 LowName t = nameOf t < 65535

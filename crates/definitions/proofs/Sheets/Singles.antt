@@ -8,9 +8,11 @@ use native.Mathlib.Omega.{arith}
 use lib.Dec.{leb}
 use borrow.Author.Tests.{leb-true}
 use Rattle.definitions.specs.Fields.{le}
-use Rattle.definitions.specs.Grammar.{Class, Entry, Field, single, counted, Pattern}
+use Rattle.definitions.specs.Grammar.{Class, Entry, Field, single, counted, Pattern, origin, originWidth}
 use Rattle.definitions.specs.Records.{Value, item, sizeOf, okItem, okItems, readItem, fieldEnd, okField, readValue, pastAll, fieldsEnd, readValues}
-use Rattle.definitions.proofs.Sheets.Passed.{both-true, counted-ok, first-past, all-past, Head}
+use Rattle.definitions.specs.Fine.{Head, ownStart}
+use Rattle.definitions.specs.ProgramSheet.{ownOf}
+use Rattle.definitions.proofs.Sheets.Passed.{both-true, counted-ok, first-past, all-past}
 
 -- the entries from `at + off` on, their values, where they end, and that each is valid
 unfoldable pub itemsFrom : List Entry → List ℕ → ℕ → ℕ → List Value
@@ -55,6 +57,21 @@ pub starts : {c : Class} {p : Pattern} {s : List ℕ} {at end b stop : ℕ} (es 
 starts {s = s} {at = at} {b = b} {stop = stop} es fs hd =
     let S : Singles es fs s stop at 6 b = singles es fs s stop at 6 (hd .valid) (omega (arith, hd .low, hd .mid)) in
     record { values = S .values; more = S .more; body = all-past fs s stop (at + after es 6) b (S .more) (S .fits) .is; valid = S .valid; fits = S .fits }
+
+-- the same of an instruction or terminator that passed, by its own fields
+pub record Own (es : List Entry) (fs : List Field) (s : List ℕ) (at b stop : ℕ) : Type 0 where
+  pub values : ownOf (readValues (origin ∷ (map single es ++ fs)) s stop (at + 6)) ≡ itemsFrom es s at ownStart ++ readValues fs s stop (at + after es ownStart)
+  pub valid : Valid es s at ownStart
+  pub fits : at + after es ownStart ≤ stop
+
+pub own : {c : Class} {p : Pattern} {s : List ℕ} {at end b stop : ℕ} (es : List Entry) (fs : List Field) → Head s at end c (origin ∷ (map single es ++ fs)) p b stop → Own es fs s at b stop
+unfolding okField fieldEnd readValues sizeOf
+own {s = s} {at = at} {b = b} {stop = stop} es fs hd =
+    let p = first-past origin (map single es ++ fs) s stop (at + 6) (hd .valid) in
+    let f : originWidth ≤ stop - (at + 6) = leb-true _ _ (both-true (leb originWidth (stop - (at + 6))) _ (p .0) .0) in
+    let w : at + 6 + originWidth ≡ at + ownStart = omega arith in
+    let S : Singles es fs s stop at ownStart b = singles es fs s stop at ownStart (rw w at (p .1)) (omega (arith, hd .low, hd .mid)) in
+    record { values = rw w (S .values); valid = S .valid; fits = S .fits }
 
 -- a list with a count, and then the others
 pub record Counted (e : Entry) (fs : List Field) (s : List ℕ) (stop at b : ℕ) : Type 0 where

@@ -7,7 +7,7 @@ use lib.Dec.{eqb}
 use Rattle.definitions.specs.Grammar.{Class, classNo, Field, Pattern, done, one, perhaps, many}
 use Rattle.definitions.specs.Records.{pick, left, after, mayEnd}
 use Rattle.definitions.proofs.Results.{by-test}
-use Rattle.definitions.proofs.Sheets.Passed.{Head, Fine, ends, goes}
+use Rattle.definitions.specs.Fine.{Head, Fine, ends, goes}
 use Rattle.definitions.proofs.Sheets.Lines.{same-class, not-left}
 
 -- a record of the class a, and then r; or nothing of it, and then p

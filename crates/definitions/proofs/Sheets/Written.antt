@@ -14,7 +14,8 @@ use Rattle.definitions.specs.Grammar.{Entry, upTo, optional, number, irT
 use Rattle.definitions.specs.Ir.{IrType, nameOf, tagOf}
 use Rattle.definitions.specs.Records.{opt, fieldEnd, fieldsEnd, okField, okItem, okItems, okType, optFrom, pastAll, readItem, readItems, readRecords, readValue, readValues, sizeOf, typeFrom, writeItem, writeItems, writeRecord, writeTrees, writeType, writeValue, writeValues}
 use Rattle.definitions.proofs.Fields.{Stands, nil, join, bytes-le, length-bytes}
-use Rattle.definitions.proofs.Sheets.Passed.{picked, both-true, counted-ok, field-within, first-past, Fine, ends, goes, read-end, read-step}
+use Rattle.definitions.specs.Fine.{Fine, ends, goes}
+use Rattle.definitions.proofs.Sheets.Passed.{picked, both-true, counted-ok, field-within, first-past, read-end, read-step}
 use Rattle.definitions.proofs.Sheets.Reads.{items-count}
 
 -- the bytes b stand from `at` to `stop`

@@ -35,17 +35,8 @@ rule k low high =
     let y : Bool = eqb (getD rows (k - 60) (row 0 0) .1) (effectNumber (k - 60 + 60)) in
     (eqb-true _ _ (both-left x y h) ∙ ap ruleNumber e, eqb-true _ _ (both-right x y h) ∙ ap effectNumber e)
 
-sub-result : tie.Need-sub-result
-sub-result c = search needs
-
-mul-result : tie.Need-mul-result
-mul-result c = search needs
-
-array-copy-out-result : tie.Need-array-copy-out-result
-array-copy-out-result c = search needs
-
 returns : tie.Need-returns
 returns c = rule (c .before .args .kind) (c .before .pre .0) (c .before .pre .1)
 
 pub kind-row-spec : {M : Type 1} → statement M
-kind-row-spec = tie.close (tie.spec sub-result mul-result array-copy-out-result returns)
+kind-row-spec = tie.close (tie.spec (λ c. search needs) (λ c. search needs) (λ c. search needs) returns)

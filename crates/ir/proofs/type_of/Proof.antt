@@ -1,6 +1,7 @@
 -- `ir::type_of`: an arm for each tag. Assumes nothing.
-use mathlib.Core.Path.{_≡_, ap, sym}
+use mathlib.Core.Path.{_≡_, ap, sym, _∙_}
 use Prim.Native.Nat.{ℕ}
+use borrow.Author.Needs.{needs}
 use borrow.Author.Tests.{ne-eqb}
 use Rattle.definitions.specs.Ir as defs
 use Rattle.definitions.specs.Records.{typeFrom}
@@ -29,11 +30,11 @@ returns-3 c = arm (c .before .args .name) (c .match .keys3)
 
 returns-4 : tie.Need-returns-4
 unfolding typeFrom
-returns-4 c = arm (c .before .args .name) (c .match .keys4)
+returns-4 c = ap defs.IrType.Struct (c .new .ensures) ∙ arm (c .before .before .args .name) (c .before .match .keys4)
 
 returns-5 : tie.Need-returns-5
 returns-5 c =
     void (c .before .args .tag) (c .before .args .name) (c .match .rest .0 .0 .0 .1) (c .match .rest .0 .0 .1) (c .match .rest .0 .1) (c .match .rest .1)
 
 pub type-of-spec : {M : Type 1} → statement M
-type-of-spec = tie.close (tie.spec returns returns-2 returns-3 returns-4 returns-5)
+type-of-spec = tie.close (tie.spec (λ c κs. search needs) returns returns-2 returns-3 returns-4 returns-5)

@@ -8,37 +8,22 @@ use borrow.Author.Needs.{needs}
 use Rattle.lines.proofs.accepted_line.Statement.{statement}
 use Rattle.lines.proofs.accepted_line.Tie as tie
 
-slice-write-text : tie.Need-slice-write-text
-slice-write-text c = search needs
-
 slice-write-text-2 : tie.Need-slice-write-text-2
 slice-write-text-2 c = simp length-set (omega arith)
 
 put-hex-requires : tie.Need-put-hex-requires
 put-hex-requires c κs = (omega arith, simp length-set (omega arith))
 
-mul-end : tie.Need-mul-end
-mul-end c = search needs
-
-add-end : tie.Need-add-end
-add-end c = search needs
-
 slice-write-text-3 : tie.Need-slice-write-text-3
 slice-write-text-3 c =
     let a = c .before .before .before .before .before .before .args in
     omega (arith, stored-length (take (a .n) (a .from .now)) (a .text .now) (c .before .before .put-hex .last .1 .1 .0) (c .before .before .put-hex .ensures))
-
-add-clear : tie.Need-add-clear
-add-clear c = search needs
 
 clear-requires : tie.Need-clear-requires
 clear-requires c κs =
     let a = c .before .before .before .before .before .before .before .args in
     let p = c .before .before .before .put-hex in
     simp length-set (omega (arith, stored-length (take (a .n) (a .from .now)) (a .text .now) (p .last .1 .1 .0) (p .ensures)))
-
-add-result : tie.Need-add-result
-add-result c = search needs
 
 same-length : tie.Need-same-length
 same-length c =
@@ -55,21 +40,20 @@ returns c =
     let p = c .before .before .before .before .before .before .put-hex in
     let k = c .before .before .clear in
     let size : length (take (a .n) (a .from .now)) ≡ a .n = length-take-le (a .n) (a .from .now) (omega arith) in
-    let l = finished (take (a .n) (a .from .now)) (a .text .now) (p .last .1 .1 .0) (k .last .0) (a .n) size (omega arith) (p .ensures) (k .ensures) in
-    (l .is, (l .size, l .inside))
+    finished (take (a .n) (a .from .now)) (a .text .now) (p .last .1 .1 .0) (k .last .0) (a .n) size (omega arith) (p .ensures) (k .ensures)
 
 pub accepted-line-spec : {M : Type 1} → statement M
 accepted-line-spec =
     tie.close
     (tie.spec
-    slice-write-text
+    (λ c. search needs)
     slice-write-text-2
     put-hex-requires
-    mul-end
-    add-end
+    (λ c. search needs)
+    (λ c. search needs)
     slice-write-text-3
-    add-clear
+    (λ c. search needs)
     clear-requires
-    add-result
+    (λ c. search needs)
     same-length
     returns)

@@ -6,12 +6,6 @@ use borrow.Author.Needs.{needs}
 use Rattle.lines.proofs.hex_digit.Statement.{statement}
 use Rattle.lines.proofs.hex_digit.Tie as tie
 
-add-result : tie.Need-add-result
-add-result c = search needs
-
-add-result-2 : tie.Need-add-result-2
-add-result-2 c = search needs
-
 returns : tie.Need-returns
 returns c = rw (lt-ltb _ 10 (c .if1 .taken))
 
@@ -19,4 +13,4 @@ returns-2 : tie.Need-returns-2
 returns-2 c = let h : 10 ≤ c .before .args .d = omega arith in rw (le-ltb _ 10 h)
 
 pub hex-digit-spec : {M : Type 1} → statement M
-hex-digit-spec = tie.close (tie.spec add-result add-result-2 returns returns-2)
+hex-digit-spec = tie.close (tie.spec (λ c. search needs) (λ c. search needs) returns returns-2)

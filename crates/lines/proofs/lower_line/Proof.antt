@@ -7,17 +7,11 @@ use Rattle.definitions.specs.Result.{ok}
 use Rattle.definitions.specs.Answers.{lengthNumbers, lowerSheet, lengthOf}
 use Rattle.definitions.specs.Lines.{lineOf, loweredLine}
 use Rattle.lower.specs.Whole.{answerOf}
-use Rattle.lines.proofs.Spaced.{told}
+use Rattle.lines.proofs.Zeros.{told}
 use Rattle.lines.proofs.Lowered.{accepted-fits, accepted-line-is, refused-line-is, wrote}
 use borrow.Author.Needs.{needs}
 use Rattle.lines.proofs.lower_line.Statement.{statement}
 use Rattle.lines.proofs.lower_line.Tie as tie
-
-lower-requires : tie.Need-lower-requires
-lower-requires c κs = search needs
-
-enum-known-answer : tie.Need-enum-known-answer
-enum-known-answer c = search needs
 
 accepted-line-requires : tie.Need-accepted-line-requires
 accepted-line-requires c κs =
@@ -41,12 +35,6 @@ returns c =
     let low : n ≤ 32768 = accepted-fits (a .sheet .now) (length (a .out .now)) n is in
     wrote 98307 32768 (length (a .text .now)) (length (a .out .now)) (a .sheet .now) (l .last .1 .0) (c .accepted-line .last .1 .1 .0) (loweredLine (ok (take n (l .last .1 .0)))) (c .accepted-line .result) size room (accepted-line-is (lowerSheet (a .sheet .now) (length (a .out .now))) (l .last .1 .0) (length (a .out .now)) n (omega arith) is (l .ensures .1 .0)) (l .ensures .1 .0) (c .accepted-line .ensures)
 
-lower-numbers-requires : tie.Need-lower-numbers-requires
-lower-numbers-requires c κs = search needs
-
-refused-line-requires : tie.Need-refused-line-requires
-refused-line-requires c κs = search needs
-
 returns-2 : tie.Need-returns-2
 returns-2 c =
     let a = c .before .before .before .before .before .before .before .before .args in
@@ -54,17 +42,17 @@ returns-2 c =
     let n = c .before .before .before .lower-numbers in
     let room : length (a .out .now) ≡ 32768 = search needs in
     let size : length (a .text .now) ≡ 98307 = search needs in
-    let numbers : take (n .result .count) (n .result .list) ≡ lengthNumbers (answerOf (l .result)) = told (n .result .count) (n .result .list) _ (n .ensures .0) (n .ensures .1 .0) (n .ensures .1 .1) in
-    wrote 98307 32768 (length (a .text .now)) (length (a .out .now)) (a .sheet .now) (l .last .1 .0) (c .refused-line .last .1 .1 .0) (lineOf (take (n .result .count) (n .result .list))) (c .refused-line .result) size room (ap lineOf numbers ∙ refused-line-is (lowerSheet (a .sheet .now) (length (a .out .now))) (l .result) (c .before .before .before .before .match .keys2) (l .ensures .0)) (l .ensures .1 .0) (c .refused-line .ensures)
+    let numbers : take (n .result .count) (n .result .list) ≡ lengthNumbers (answerOf (l .result)) = told (n .result .count) (n .result .list) _ (n .ensures) in
+    wrote 98307 32768 (length (a .text .now)) (length (a .out .now)) (a .sheet .now) (l .last .1 .0) (c .put-line .last .1 .1 .0) (lineOf (take (n .result .count) (n .result .list))) (c .put-line .result) size room (ap lineOf numbers ∙ refused-line-is (lowerSheet (a .sheet .now) (length (a .out .now))) (l .result) (c .before .before .before .before .match .keys2) (l .ensures .0)) (l .ensures .1 .0) (c .put-line .ensures)
 
 pub lower-line-spec : {M : Type 1} → statement M
 lower-line-spec =
     tie.close
     (tie.spec
-    lower-requires
-    enum-known-answer
+    (λ c κs. search needs)
+    (λ c. search needs)
     accepted-line-requires
     returns
-    lower-numbers-requires
-    refused-line-requires
+    (λ c κs. search needs)
+    (λ c κs. search needs)
     returns-2)

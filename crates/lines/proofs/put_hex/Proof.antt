@@ -21,24 +21,6 @@ abbrev μ-loop : tie.MeasureT-loop
 loop-holds : tie.Need-loop-holds Inv-loop μ-loop
 loop-holds c = (simp (add-zero, sub-zero), refl, omega arith)
 
-shared-slice-read-b : tie.Need-shared-slice-read-b Inv-loop μ-loop
-shared-slice-read-b c = search needs
-
-mul-space : tie.Need-mul-space Inv-loop μ-loop
-mul-space c = search needs
-
-add-space : tie.Need-add-space Inv-loop μ-loop
-add-space c = search needs
-
-add-high : tie.Need-add-high Inv-loop μ-loop
-add-high c = search needs
-
-add-low : tie.Need-add-low Inv-loop μ-loop
-add-low c = search needs
-
-slice-write-text : tie.Need-slice-write-text Inv-loop μ-loop
-slice-write-text c = search needs
-
 hex-digit-requires : tie.Need-hex-digit-requires Inv-loop μ-loop
 hex-digit-requires c κs = omega (arith, c .shared-slice-known2 .given (c .before .before .loop .i))
 
@@ -51,19 +33,10 @@ hex-digit-requires-2 c κs = omega (arith, c .before .shared-slice-known2 .given
 slice-write-text-3 : tie.Need-slice-write-text-3 Inv-loop μ-loop
 slice-write-text-3 c = simp length-set (omega arith)
 
-add-i : tie.Need-add-i Inv-loop μ-loop
-add-i c = search needs
-
-loop-less : tie.Need-loop-less Inv-loop μ-loop
-loop-less c = search needs
-
 loop-again : tie.Need-loop-again Inv-loop μ-loop
 loop-again c =
     let l = c .before .before .before .before .loop in
     (hex-front (l .text) _ _ (l .i) _ _ _ (c .before .before .before .loop-test .taken) (c .before .before .before .before .before .before .before .pre .0) (c .before .hex-digit .ensures) (c .hex-digit2 .ensures) ∙ l .inv .0, simp length-set (l .inv .1), omega arith)
-
-same-length : tie.Need-same-length Inv-loop μ-loop
-same-length c = search needs
 
 returns : tie.Need-returns Inv-loop μ-loop
 unfolding hexed
@@ -79,18 +52,18 @@ put-hex-spec =
     Inv-loop
     μ-loop
     loop-holds
-    shared-slice-read-b
-    mul-space
-    add-space
-    add-high
-    add-low
-    slice-write-text
+    (λ c. search needs)
+    (λ c. search needs)
+    (λ c. search needs)
+    (λ c. search needs)
+    (λ c. search needs)
+    (λ c. search needs)
     hex-digit-requires
     slice-write-text-2
     hex-digit-requires-2
     slice-write-text-3
-    add-i
-    loop-less
+    (λ c. search needs)
+    (λ c. search needs)
     loop-again
-    same-length
+    (λ c. search needs)
     returns)

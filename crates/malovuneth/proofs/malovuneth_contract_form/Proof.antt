@@ -1,5 +1,5 @@
 -- `malovuneth::malovuneth_contract_form`: good, or the place. Assumes nothing.
-use mathlib.Core.Path.{_≡_, sym, ap, _∙_}
+use mathlib.Core.Path.{_≡_, refl, sym, ap, _∙_}
 use Rattle.definitions.specs.Records as records
 use Rattle.definitions.specs.Answers.{numbersOf, padded, refuseForm}
 use Rattle.sheet.specs.declared.Form.{Form}
@@ -23,11 +23,11 @@ enum-known-p c = search needs
 
 returns : tie.Need-returns
 unfolding formOf
-returns c = of-form (c .before .enum-told .given .1) (c .before .before .before .contract-form .ensures)
+returns c = (of-form (c .before .enum-told .given .1) (c .before .before .before .contract-form .ensures), refl)
 
 returns-2 : tie.Need-returns-2
 unfolding formOf
-returns-2 c = of-form (c .before .before .p .given .1) (c .before .before .before .before .contract-form .ensures)
+returns-2 c = (of-form (c .before .before .p .given .1) (c .before .before .before .before .contract-form .ensures), refl)
 
 pub malovuneth-contract-form-spec : {M : Type 1} → statement M
 malovuneth-contract-form-spec =

@@ -72,17 +72,11 @@ module _ (t : ℕ) where
   add-stop : lts.Need-add-stop (Calls t) (At t) limits.Post Inv-loop μ-loop
   add-stop c = let d = spans (c .before .before .loop .inv) (c .before .loop-test .taken) in omega (arith, c .read .ensures .0)
 
-  add-read : lts.Need-add-read (Calls t) (At t) limits.Post Inv-loop μ-loop
-  add-read c = search needs
-
   read-requires-2 : lts.Need-read-requires-2 (Calls t) (At t) limits.Post Inv-loop μ-loop
   read-requires-2 c κs = let d = spans (c .before .before .loop .inv) (c .before .loop-test .taken) in (omega arith, omega arith)
 
   returns : lts.Need-returns (Calls t) (At t) limits.Post Inv-loop μ-loop
   returns c = too-deep (c .before .before .before .before .loop .inv) (c .before .before .before .loop-test .taken) (c .before .read2 .ensures .0) (c .if1 .taken)
-
-  too-many-requires : lts.Need-too-many-requires (Calls t) (At t) limits.Post Inv-loop μ-loop
-  too-many-requires c κs = search needs
 
   returns-2 : lts.Need-returns-2 (Calls t) (At t) limits.Post Inv-loop μ-loop
   returns-2 c = one-too-many (c .before .before .before .before .before .before .loop .inv) (c .before .before .before .before .before .loop-test .taken) (c .before .before .before .read2 .ensures .0) (c .before .before .if1 .left) (c .before .too-many .ensures) (c .if2 .taken)
@@ -95,20 +89,11 @@ module _ (t : ℕ) where
       let p = c .before .before .before .before in
       too-wide (p .before .before .before .before .loop .inv) (p .before .before .before .loop-test .taken) (p .before .read2 .ensures .0) (p .if1 .left) (c .before .before .before .too-many .ensures) (c .before .before .if2 .left) (c .before .too-wide .ensures) (c .if3 .taken)
 
-  one-if-requires : lts.Need-one-if-requires (Calls t) (At t) limits.Post Inv-loop μ-loop
-  one-if-requires c κs = search needs
-
   add-storage : lts.Need-add-storage (Calls t) (At t) limits.Post Inv-loop μ-loop
   add-storage c = let d = cleared (c .before) in search needs
 
-  one-if-requires-2 : lts.Need-one-if-requires-2 (Calls t) (At t) limits.Post Inv-loop μ-loop
-  one-if-requires-2 c κs = search needs
-
   add-structs : lts.Need-add-structs (Calls t) (At t) limits.Post Inv-loop μ-loop
   add-structs c = let d = cleared (c .before .before) in search needs
-
-  one-if-requires-3 : lts.Need-one-if-requires-3 (Calls t) (At t) limits.Post Inv-loop μ-loop
-  one-if-requires-3 c κs = search needs
 
   add-functions : lts.Need-add-functions (Calls t) (At t) limits.Post Inv-loop μ-loop
   add-functions c = let d = cleared (c .before .before .before) in search needs
@@ -116,20 +101,11 @@ module _ (t : ℕ) where
   body-of-requires : lts.Need-body-of-requires (Calls t) (At t) limits.Post Inv-loop μ-loop
   body-of-requires c κs = standing (c .before .before .before .before .before .before .before)
 
-  add-limits : lts.Need-add-limits (Calls t) (At t) limits.Post Inv-loop μ-loop
-  add-limits c = search needs
-
   limits-requires : lts.Need-limits-requires (Calls t) (At t) limits.Post Inv-loop μ-loop
   limits-requires c κs = let d = cleared (c .before .before .before .before .before) in (omega arith, (kids-passed d (c .before .body-of .ensures), (omega arith, omega arith)))
 
-  enum-known-inner : lts.Need-enum-known-inner (Calls t) (At t) limits.Post Inv-loop μ-loop
-  enum-known-inner c = search needs
-
   returns-4 : lts.Need-returns-4 (Calls t) (At t) limits.Post Inv-loop μ-loop
   returns-4 c = children-bad (cleared (c .before .before .before .before .before .before .before .before .before)) (c .before .before .before .before .before .body-of .ensures) (c .before .before .before .limits .ensures) (c .before .inner .given .1)
-
-  enum-told : lts.Need-enum-told (Calls t) (At t) limits.Post Inv-loop μ-loop
-  enum-told c = search needs
 
   loop-less : lts.Need-loop-less (Calls t) (At t) limits.Post Inv-loop μ-loop
   loop-less c = let d = cleared (c .before .before .before .before .before .before .before .before) in omega arith
@@ -155,25 +131,25 @@ pub +limits-spec : {M : Type 1} → statement M
     (loop-holds t)
     (read-requires t)
     (add-stop t)
-    (add-read t)
+    (λ c. search needs)
     (read-requires-2 t)
     (returns t)
-    (too-many-requires t)
+    (λ c κs. search needs)
     (returns-2 t)
     (too-wide-requires t)
     (returns-3 t)
-    (one-if-requires t)
+    (λ c κs. search needs)
     (add-storage t)
-    (one-if-requires-2 t)
+    (λ c κs. search needs)
     (add-structs t)
-    (one-if-requires-3 t)
+    (λ c κs. search needs)
     (add-functions t)
     (body-of-requires t)
-    (add-limits t)
+    (λ c. search needs)
     (limits-requires t)
-    (enum-known-inner t)
+    (λ c. search needs)
     (returns-4 t)
-    (enum-told t)
+    (λ c. search needs)
     (loop-less t)
     (loop-again t)
     (loop-less-2 t)

@@ -9,27 +9,15 @@ use Rattle.sheet.proofs.Widths.{struct-starts, struct-wide, function-st
 use Rattle.sheet.proofs.limits.too_wide.Statement.{statement}
 use Rattle.sheet.proofs.limits.too_wide.Tie as tie
 
-add-result : tie.Need-add-result
-add-result c = search needs
-
 sub-result : tie.Need-sub-result
 sub-result c = struct-starts (c .before .before .pre) (c .match .keys1)
-
-add-read : tie.Need-add-read
-add-read c = search needs
 
 read-requires : tie.Need-read-requires
 read-requires c κs = (function-starts (c .before .before .pre) (c .match .keys2), omega arith)
 
-add-count : tie.Need-add-count
-add-count c = search needs
-
 count-requires : tie.Need-count-requires
 unfolding rowFields rowIn rows
 count-requires c κs = arguments-passed (c .before .before .pre) (c .match .keys3) refl
-
-add-count-2 : tie.Need-add-count-2
-add-count-2 c = search needs
 
 count-requires-2 : tie.Need-count-requires-2
 unfolding rowFields rowIn rows
@@ -56,13 +44,13 @@ pub too-wide-spec : {M : Type 1} → statement M
 too-wide-spec =
     tie.close
     (tie.spec
-    add-result
+    (λ c. search needs)
     sub-result
-    add-read
+    (λ c. search needs)
     read-requires
-    add-count
+    (λ c. search needs)
     count-requires
-    add-count-2
+    (λ c. search needs)
     count-requires-2
     returns
     returns-2

@@ -6,12 +6,6 @@ use borrow.Author.Needs.{needs}
 use Rattle.sheet.proofs.places.past_list.Statement.{statement}
 use Rattle.sheet.proofs.places.past_list.Tie as tie
 
-add-result : tie.Need-add-result
-add-result c = search needs
-
-read-requires : tie.Need-read-requires
-read-requires c κs = search needs
-
 mul-result : tie.Need-mul-result
 mul-result c = let e = ap (λ (y : ℕ). c .before .before .args .size * y) (c .read .ensures .0) in search needs
 
@@ -22,4 +16,4 @@ returns : tie.Need-returns
 returns c = let e = ap (λ (y : ℕ). c .before .before .args .size * y) (c .read .ensures .0) in omega arith
 
 pub past-list-spec : {M : Type 1} → statement M
-past-list-spec = tie.close (tie.spec add-result read-requires mul-result add-result-2 returns)
+past-list-spec = tie.close (tie.spec (λ c. search needs) (λ c κs. search needs) mul-result add-result-2 returns)

@@ -9,7 +9,7 @@ use borrow.Fn.PlainCycle.{Measures, is, falls, and}
 use Rattle.reader.proofs.read.Reads as read
 use Rattle.sheet.proofs.Checks.{Going, over-good, over-bad, not-there, there, not-valid, Entered, enters, children-good, children-bad, none-good, none-bad}
 use Rattle.sheet.proofs.Heads.{class-small, Begun}
-use Rattle.sheet.proofs.entries.past_fields.Reads as past-fields
+use Rattle.sheet.proofs.fixed_fields.past_fixed.Reads as past-fixed
 use Rattle.sheet.proofs.records.after.Reads as after
 use Rattle.sheet.proofs.records.kind_at.Reads as kind-at
 use Rattle.sheet.proofs.records.may_end.Reads as may-end
@@ -37,8 +37,8 @@ Calls t = (
   after.Learnt,
   read.Asked,
   read.Learnt,
-  past-fields.Asked,
-  past-fields.Learnt,
+  past-fixed.Asked,
+  past-fixed.Learnt,
   and 1 kinds.ps (falls 1 kinds.ps _<_ μ t) records.Pre,
   records.Post,
   may-end.Asked,
@@ -61,18 +61,12 @@ module _ (t : ℕ) where
   entered : (c : lts.Else2 (Calls t) (At t) records.Post Inv-loop μ-loop)
       → let l = c .before .before .before .before .before .before .before .before in
       let a = l .before .before .args in
-      Entered (a .s .now) (a .at) (a .end) (a .pattern) (l .loop .place) (c .before .before .before .before .before .row-of .result) (c .before .before .before .before .after .result) (c .before .before .read .result) (c .before .past-fields .result)
+      Entered (a .s .now) (a .at) (a .end) (a .pattern) (l .loop .place) (c .before .before .before .before .before .row-of .result) (c .before .before .before .before .after .result) (c .before .before .read .result) (c .before .past-fixed .result)
   entered c =
-      enters (c .before .before .before .before .before .before .before .before .loop .inv) (c .before .before .before .before .before .before .before .loop-test .taken) (started (c .before .before .before)) (c .before .before .read .ensures .0) _ (c .before .past-fields .ensures) (c .if2 .left)
+      enters (c .before .before .before .before .before .before .before .before .loop .inv) (c .before .before .before .before .before .before .before .loop-test .taken) (started (c .before .before .before)) (c .before .before .read .ensures .0) _ (c .before .past-fixed .ensures) (c .if2 .left)
 
   loop-holds : lts.Need-loop-holds (Calls t) (At t) records.Post Inv-loop μ-loop
   loop-holds c = record { low = omega arith; high = search needs; ok = search needs; same = refl }
-
-  kind-at-requires : lts.Need-kind-at-requires (Calls t) (At t) records.Post Inv-loop μ-loop
-  kind-at-requires c κs = search needs
-
-  row-of-requires : lts.Need-row-of-requires (Calls t) (At t) records.Post Inv-loop μ-loop
-  row-of-requires c κs = search needs
 
   after-requires : lts.Need-after-requires (Calls t) (At t) records.Post Inv-loop μ-loop
   after-requires c κs = search (class-small, needs)
@@ -86,26 +80,17 @@ module _ (t : ℕ) where
   add-stop : lts.Need-add-stop (Calls t) (At t) records.Post Inv-loop μ-loop
   add-stop c = let d = started (c .before) in omega (arith, c .read .ensures .0)
 
-  add-past-fields : lts.Need-add-past-fields (Calls t) (At t) records.Post Inv-loop μ-loop
-  add-past-fields c = search needs
-
-  past-fields-requires : lts.Need-past-fields-requires (Calls t) (At t) records.Post Inv-loop μ-loop
-  past-fields-requires c κs = let d = started (c .before) in (omega arith, (omega (arith, c .read .ensures .0), (omega (arith, c .read .ensures .0), omega arith)))
+  past-fixed-requires : lts.Need-past-fixed-requires (Calls t) (At t) records.Post Inv-loop μ-loop
+  past-fixed-requires c κs = let d = started (c .before) in (omega arith, (omega (arith, c .read .ensures .0), (omega (arith, c .read .ensures .0), omega arith)))
 
   returns-2 : lts.Need-returns-2 (Calls t) (At t) records.Post Inv-loop μ-loop
-  returns-2 c = not-valid (c .before .before .before .before .before .before .before .before .loop .inv) (c .before .before .before .before .before .before .before .loop-test .taken) (started (c .before .before .before)) (c .before .before .read .ensures .0) _ (c .before .past-fields .ensures) (c .if2 .taken)
+  returns-2 c = not-valid (c .before .before .before .before .before .before .before .before .loop .inv) (c .before .before .before .before .before .before .before .loop-test .taken) (started (c .before .before .before)) (c .before .before .read .ensures .0) _ (c .before .past-fixed .ensures) (c .if2 .taken)
 
   records-requires : lts.Need-records-requires (Calls t) (At t) records.Post Inv-loop μ-loop
   records-requires c κs = let d = entered (c .before) in (omega arith, (d .stop, (omega arith, d .children)))
 
-  enum-known-inner : lts.Need-enum-known-inner (Calls t) (At t) records.Post Inv-loop μ-loop
-  enum-known-inner c = search needs
-
   returns-3 : lts.Need-returns-3 (Calls t) (At t) records.Post Inv-loop μ-loop
   returns-3 c = children-bad (entered (c .before .before .before .before .before)) (c .before .before .before .records .ensures) (c .before .inner .given .1)
-
-  enum-told : lts.Need-enum-told (Calls t) (At t) records.Post Inv-loop μ-loop
-  enum-told c = search needs
 
   may-end-requires : lts.Need-may-end-requires (Calls t) (At t) records.Post Inv-loop μ-loop
   may-end-requires c κs = entered (c .before) .children
@@ -125,9 +110,6 @@ module _ (t : ℕ) where
   loop-again-2 : lts.Need-loop-again-2 (Calls t) (At t) records.Post Inv-loop μ-loop
   loop-again-2 c = none-good (entered (c .before .before .before)) (c .before .before .if3 .left) (c .before .may-end .ensures) (not-false _ (c .if4 .left))
 
-  may-end-requires-2 : lts.Need-may-end-requires-2 (Calls t) (At t) records.Post Inv-loop μ-loop
-  may-end-requires-2 c κs = search needs
-
   returns-5 : lts.Need-returns-5 (Calls t) (At t) records.Post Inv-loop μ-loop
   returns-5 c = search (over-good, needs)
 
@@ -139,25 +121,25 @@ pub +records-spec : {M : Type 1} → statement M
     close μ λ t.
     lts.spec (Calls t) (At t) records.Post Inv-loop μ-loop
     (loop-holds t)
-    (kind-at-requires t)
-    (row-of-requires t)
+    (λ c κs. search needs)
+    (λ c κs. search needs)
     (after-requires t)
     (returns t)
     (read-requires t)
     (add-stop t)
-    (add-past-fields t)
-    (past-fields-requires t)
+    (λ c. search needs)
+    (past-fixed-requires t)
     (returns-2 t)
     (records-requires t)
-    (enum-known-inner t)
+    (λ c. search needs)
     (returns-3 t)
-    (enum-told t)
+    (λ c. search needs)
     (may-end-requires t)
     (returns-4 t)
     (loop-less t)
     (loop-again t)
     (loop-less-2 t)
     (loop-again-2 t)
-    (may-end-requires-2 t)
+    (λ c κs. search needs)
     (returns-5 t)
     (returns-6 t)

@@ -23,9 +23,6 @@ returns-2 c = search (leaves, needs)
 returns-3 : tie.Need-returns-3 Inv-loop μ-loop
 returns-3 c = search (refuses, needs)
 
-loop-less : tie.Need-loop-less Inv-loop μ-loop
-loop-less c = search needs
-
 loop-again : tie.Need-loop-again Inv-loop μ-loop
 loop-again c = search (seeks, needs)
 
@@ -42,6 +39,6 @@ after-spec =
     returns
     returns-2
     returns-3
-    loop-less
+    (λ c. search needs)
     loop-again
     returns-4)

@@ -17,9 +17,6 @@ loop-holds c = record { ok = search needs; same = refl }
 returns : tie.Need-returns Inv-loop μ-loop
 returns c = search (must-come, needs)
 
-loop-less : tie.Need-loop-less Inv-loop μ-loop
-loop-less c = search needs
-
 loop-again : tie.Need-loop-again Inv-loop μ-loop
 loop-again c = search (may-lack, needs)
 
@@ -28,4 +25,4 @@ returns-2 c = search (ended, needs)
 
 pub may-end-spec : {M : Type 1} → statement M
 may-end-spec =
-    tie.close (tie.spec Inv-loop μ-loop loop-holds returns loop-less loop-again returns-2)
+    tie.close (tie.spec Inv-loop μ-loop loop-holds returns (λ c. search needs) loop-again returns-2)

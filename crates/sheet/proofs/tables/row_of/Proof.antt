@@ -2,13 +2,13 @@
 use mathlib.Core.Path.{refl}
 use Rattle.definitions.specs.Grammar.{rows}
 use Rattle.definitions.specs.Records.{rowIn}
-use Rattle.sheet.specs.Codes.{fields, fieldIn, fieldsFrom, classes, classOf, child, patternFrom, classCoded, codedFrom, bodyCoded, rowOf, rowCoded}
+use Rattle.sheet.specs.Codes.{fields, fieldIn, fieldsFrom, classes, classOf, child, patternFrom, classCoded, codedFrom, bodyCoded, withOrigin, rowOf, rowCoded}
 use Rattle.sheet.proofs.Rows.{arm, none}
 use Rattle.sheet.proofs.tables.row_of.Statement.{statement}
 use Rattle.sheet.proofs.tables.row_of.Tie as tie
 
 pub row-of-spec : {M : Type 1} → statement M
-unfolding fields fieldIn fieldsFrom classes classOf child patternFrom classCoded codedFrom bodyCoded rowOf rowCoded rowIn rows
+unfolding fields fieldIn fieldsFrom classes classOf child patternFrom classCoded codedFrom bodyCoded withOrigin rowOf rowCoded rowIn rows
 row-of-spec =
     tie.close
     (tie.spec

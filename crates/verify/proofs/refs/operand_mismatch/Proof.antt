@@ -7,15 +7,8 @@ use Rattle.definitions.specs.Verify.{VerifyError}
 use Rattle.verify.proofs.refs.operand_mismatch.Statement.{statement}
 use Rattle.verify.proofs.refs.operand_mismatch.Tie as tie
 
-ir-type-requires : tie.Need-ir-type-requires
-ir-type-requires c κs = search needs
-
-ir-type-requires-2 : tie.Need-ir-type-requires-2
-ir-type-requires-2 c κs = search needs
-
-returns : tie.Need-returns
-returns c =
-    ap₂ (λ (x y : IrType). err (c .before .before .args .name, VerifyError.OperandTypeMismatch x y)) (c .before .ir-type .ensures) (c .ir-type2 .ensures)
-
 pub operand-mismatch-spec : {M : Type 1} → statement M
-operand-mismatch-spec = tie.close (tie.spec ir-type-requires ir-type-requires-2 returns)
+operand-mismatch-spec =
+    tie.close
+    (tie.spec (λ c κs. search needs) (λ c κs. search needs)
+    (λ c. ap₂ (λ (x y : IrType). err (c .before .before .args .name .0, VerifyError.OperandTypeMismatch x y)) (c .before .type-of-code .ensures) (c .type-of-code2 .ensures)))

@@ -1,2 +1,0 @@
-pub mod LocalTypes
-pub mod Terminated

@@ -1,0 +1,4 @@
+pub mod FlowSteps
+pub mod LocalMade
+pub mod TableStores
+pub mod Terminated

@@ -1,0 +1,207 @@
+// Storage fields, structs and functions by name. The contract's record starts at 0, and its children at 8.
+ghost use mathlib.Core.Path.{_≡_};
+ghost use mathlib.Core.Option.{some};
+ghost use Prim.Native.Nat.{ℕ, _/_, _≤_};
+ghost use Rattle.definitions.specs.Ir as defs;
+ghost use Rattle.definitions.specs.Lower.{fieldPosition};
+ghost use Rattle.definitions.specs.Grammar.{Class};
+ghost use Rattle.definitions.specs.ContractSheet.{readContract, structOf};
+ghost use Rattle.ir.specs.Types.{asType};
+ghost use Rattle.sheet.specs.Passed.{recordKind, stopOf};
+ghost use Rattle.contract_nodes.specs.Ready.{Ready, topClass, treeAt};
+ghost use Rattle.sheet.specs.Passed.{ContractPassed};
+ghost use Rattle.lower_names.specs.Answers.{foundIn, foundOf, storedAt, orEarlier, StandsAt, lastOf, slotOf, slotNamed, positionOf, offsetOf, fieldOffset, signatureOf, signatureNamed};
+use crate::Found;
+use crate::Offset;
+use crate::Position;
+use crate::Signature;
+use crate::Slot;
+use crate::types::return_type;
+use format::KIND;
+use format::contract;
+use format::kinds;
+use ir::FunctionId;
+use ir::IrType;
+use ir::Name;
+use lower_state::LoweringError;
+use reader::read;
+use reader::read_u16;
+
+// What a walk found, as one number: 65,536 times the place, and the position. 0 is nothing: no record of the contract starts at 0.
+fn decoded(found: usize) -> Found
+    ensures { λ r. ⌜ r ≡ foundOf found ⌝ }
+{
+    if found == 0 {
+        return Found::Missing;
+    }
+    Found::At(found % 65536, found / 65536)
+}
+
+// The later one serves, if there is one.
+fn or_earlier(later: usize, earlier: usize) -> usize
+    ensures { λ r. ⌜ foundOf r ≡ orEarlier (foundOf later) (foundOf earlier) ⌝ }
+{
+    if later == 0 { earlier } else { later }
+}
+
+// A storage field's bytes and slot.
+struct StorageField {
+    bytes: usize,
+    slot: usize,
+}
+
+// Those of the storage field at a place. The first stands at 8 and each takes ten bytes, so that a walk past them waits for no length that
+// it reads; the slot is the field's position.
+fn storage_field(at: usize) -> StorageField
+    ensures { λ r. ⌜ (r .bytes ≡ 10) × (r .slot ≡ at / 10) ⌝ }
+{
+    StorageField {
+        bytes: contract::STORAGE_BYTES,
+        slot: at / contract::STORAGE_BYTES,
+    }
+}
+
+// The place after a record.
+fn past(s: &[u8], at: usize, kind: usize) -> usize
+    requires { ⌜ (kind ≡ recordKind (now s) at) × Ready (topClass kind) (now s) at 39 ⌝ }
+    ensures { λ r. ⌜ r ≡ stopOf (now (s .entry)) at ⌝ }
+{
+    if kind == kinds::STORAGE {
+        let field = storage_field(at);
+        return at + field.bytes;
+    }
+    at + read(s, at, 4)
+}
+
+// The last record of a kind (2, 3 or 4) that has a name. None comes after a record of a higher kind.
+fn last_named(s: &[u8], kind: usize, name: Name) -> Found
+    requires { ⌜ ContractPassed (now s) × ((2 ≤ kind) × (kind ≤ 4)) ⌝ }
+    ensures { λ r. ⌜ (foundIn (now (s .entry)) r ≡ lastOf (now (s .entry)) kind (name .0)) × StandsAt (now (s .entry)) kind r ⌝ }
+{
+    let mut found = 0;
+    let mut position = 0;
+    let mut at = contract::CHILDREN;
+    while at < s.len() {
+        let here = read(s, at + KIND, 2);
+        if kind < here {
+            return decoded(found);
+        }
+        if here == kind {
+            let this = if read_u16(s, at + contract::NAME) == name.0 {
+                at * 65536 + position
+            } else {
+                0
+            };
+            found = or_earlier(this, found);
+            position += 1;
+        }
+        at = past(s, at, here);
+    }
+    decoded(found)
+}
+
+// The place of the last storage field that has a name; 0 is nothing. Storage fields come first. Kind and name are read as one number.
+fn last_storage(s: &[u8], name: Name) -> usize
+    requires { ⌜ ContractPassed (now s) ⌝ }
+    ensures { λ r. ⌜ foundIn (now (s .entry)) (storedAt r) ≡ lastOf (now (s .entry)) 2 (name .0) ⌝ }
+{
+    let wanted = kinds::STORAGE + 65536 * (name.0 as usize);
+    let mut found = 0;
+    let mut at = contract::CHILDREN;
+    while at < s.len() {
+        let here = read(s, at + KIND, 4);
+        if here % 65536 != kinds::STORAGE {
+            return found;
+        }
+        if here == wanted {
+            found = or_earlier(at, found);
+        }
+        let field = storage_field(at);
+        at += field.bytes;
+    }
+    found
+}
+
+// A storage field's slot.
+pub fn storage_slot(s: &[u8], name: Name) -> Slot
+    requires { ⌜ ContractPassed (now s) ⌝ }
+    ensures { λ r. ⌜ slotOf r ≡ slotNamed (readContract (now (s .entry))) (name .0) ⌝ }
+{
+    let place = last_storage(s, name);
+    if place == 0 {
+        return Slot::Undeclared;
+    }
+    let field = storage_field(place);
+    Slot::At(field.slot)
+}
+
+// The position of the first field of a name in the struct at a place.
+fn field_position(s: &[u8], at: usize, name: Name) -> Position
+    requires { ⌜ ContractPassed (now s) × ((d : ℕ) × Ready Class.struct (now s) at d) ⌝ }
+    ensures { λ r. ⌜ positionOf r ≡ fieldPosition (structOf (treeAt (now (s .entry)) at) .fields) (name .0) ⌝ }
+{
+    let stop = at + read(s, at, 4);
+    let mut field = at + contract::AFTER_NAME;
+    let mut position = 0;
+    while field < stop {
+        if read_u16(s, field) == name.0 {
+            return Position::At(position);
+        }
+        position += 1;
+        field += contract::PARAM;
+    }
+    Position::Missing
+}
+
+// The offset of a field in a struct of a name.
+fn offset_in(s: &[u8], of: Name, field: Name) -> Offset
+    requires { ⌜ ContractPassed (now s) ⌝ }
+    ensures { λ r. ⌜ offsetOf r ≡ fieldOffset (readContract (now (s .entry))) (defs.IrType.Struct (of .0)) (field .0) ⌝ }
+{
+    match last_named(s, kinds::STRUCT, of) {
+        Found::At(_, place) => match field_position(s, place, field) {
+            Position::At(i) => Offset::At(i * 8),
+            Position::Missing => Offset::Refused(LoweringError::NoSuchField(of, field)),
+        },
+        Found::Missing => Offset::Refused(LoweringError::UnresolvedType(of)),
+    }
+}
+
+// The offset of a field in a value of a type.
+pub fn field_offset(s: &[u8], ty: IrType, field: Name) -> Offset
+    requires { ⌜ ContractPassed (now s) ⌝ }
+    ensures { λ r. ⌜ offsetOf r ≡ fieldOffset (readContract (now (s .entry))) (asType ty) (field .0) ⌝ }
+{
+    match ty {
+        IrType::Struct(n) => offset_in(s, n, field),
+        IrType::U64 => Offset::Refused(LoweringError::FieldOfNonStruct),
+        IrType::Bool => Offset::Refused(LoweringError::FieldOfNonStruct),
+        IrType::Field => Offset::Refused(LoweringError::FieldOfNonStruct),
+        IrType::Void => Offset::Refused(LoweringError::FieldOfNonStruct),
+    }
+}
+
+// A function's id, which is its position, and the type of a call of it.
+pub fn signature(s: &[u8], name: Name) -> Signature
+    requires { ⌜ ContractPassed (now s) ⌝ }
+    ensures { λ r. ⌜ signatureOf r ≡ signatureNamed (readContract (now (s .entry))) (name .0) ⌝ }
+{
+    match last_named(s, kinds::FUNCTION, name) {
+        Found::At(i, place) => Signature::At(
+            FunctionId(i as u16),
+            return_type(read_u16(s, place + contract::RETURN_TYPE)),
+        ),
+        Found::Missing => Signature::Undefined,
+    }
+}
+
+// The id of the last function of a name; 0 if there is none.
+pub fn last_function(s: &[u8], name: Name) -> FunctionId
+    requires { ⌜ ContractPassed (now s) ⌝ }
+    ensures { λ r. ⌜ ((i : ℕ) (t : defs.IrType) → signatureNamed (readContract (now (s .entry))) (name .0) ≡ some (i, t) → r .0 ≡ i) ⌝ }
+{
+    match signature(s, name) {
+        Signature::At(function, _) => function,
+        Signature::Undefined => FunctionId(0),
+    }
+}

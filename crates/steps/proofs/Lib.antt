@@ -1,3 +1,0 @@
-pub mod ControlSteps
-pub mod FlowSteps
-pub mod SimpleSteps

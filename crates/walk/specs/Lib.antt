@@ -1,4 +1,0 @@
-pub mod Log
-pub mod Exprs
-pub mod Stmts
-pub mod Layout
