@@ -1,6 +1,7 @@
 // The numbers of both sheets' format (docs/FORMAT.md), each said once. Places are counted from a record's first byte.
 pub mod contract; // where the fields of a contract sheet's records stand
 pub mod kinds; // record kinds
+pub mod operators; // the operators of a Binary
 pub mod program; // where the fields of a program sheet's records stand
 
 // A sheet's most bytes.

@@ -101,6 +101,13 @@ pub const EVENT_ARGS: usize = OWN + ID;
 
 pub const CONTEXT: usize = OWN;
 
+// What a ContextRead can read.
+pub const MSG_SENDER: usize = 0;
+
+pub const MSG_NONCE: usize = 1;
+
+pub const BLOCK_NUMBER: usize = 2;
+
 // Terminators.
 pub const TARGET: usize = FIELDS;
 

@@ -8,8 +8,15 @@ ghost use Rattle.definitions.specs.Answers.{checkContract, lowerSheet, numbersO
 ghost use Rattle.definitions.specs.Lines.{hexDigit, hexed, lineOf, loweredLine};
 ghost use Rattle.lines.specs.Lined.{Begins, Lined};
 use digits::put_digits;
+use format::MOST;
 use lower::Answer;
 use writer::clear;
+
+// The bytes that a line of numbers is put into, 126 of which six numbers can take.
+pub const LINE: usize = 128;
+
+// Those of lowering's line: 3 for each byte of a sheet, and 3 for `OK` and the line feed.
+pub const LOWERED_LINE: usize = 3 * MOST + 3;
 
 const SPACE: u8 = b' ';
 
@@ -63,7 +70,7 @@ fn put_line(count: usize, list: [usize; 6], out: &mut [u8]) -> usize
 }
 
 // Puts the line of the first `count` of the list into `out`, with zeros behind it, and gives its length. It is `OK` if there are none.
-pub fn line(count: usize, list: [usize; 6], out: &mut [u8; 128]) -> usize
+pub fn line(count: usize, list: [usize; 6], out: &mut [u8; LINE]) -> usize
     ensures { λ r. ⌜ now (out .exit) ≡ padded 128 (lineOf (take count list)) ⌝ }
     ensures { λ r. ⌜ r ≡ length (lineOf (take count list)) ⌝ }
     ensures { λ r. ⌜ (r ≤ length (now (out .exit))) × (r ≡ length (take r (now (out .exit)))) ⌝ }
@@ -72,7 +79,7 @@ pub fn line(count: usize, list: [usize; 6], out: &mut [u8; 128]) -> usize
 }
 
 // Puts the line of the verifier's answer to a program sheet into `out`, with zeros behind it, and gives its length.
-pub fn verify_line(sheet: &[u8], out: &mut [u8; 128]) -> usize
+pub fn verify_line(sheet: &[u8], out: &mut [u8; LINE]) -> usize
     ensures { λ r. ⌜ now (out .exit) ≡ padded 128 (lineOf (numbersOf (verifySheet (now (sheet .entry))))) ⌝ }
     ensures { λ r. ⌜ r ≡ length (lineOf (numbersOf (verifySheet (now (sheet .entry))))) ⌝ }
     ensures { λ r. ⌜ (r ≤ length (now (out .exit))) × (r ≡ length (take r (now (out .exit)))) ⌝ }
@@ -83,7 +90,7 @@ pub fn verify_line(sheet: &[u8], out: &mut [u8; 128]) -> usize
 }
 
 // The same of what lowering asks of a contract sheet before the walk.
-pub fn contract_line(sheet: &[u8], out: &mut [u8; 128]) -> usize
+pub fn contract_line(sheet: &[u8], out: &mut [u8; LINE]) -> usize
     ensures { λ r. ⌜ now (out .exit) ≡ padded 128 (lineOf (numbersOf (checkContract (now (sheet .entry))))) ⌝ }
     ensures { λ r. ⌜ r ≡ length (lineOf (numbersOf (checkContract (now (sheet .entry))))) ⌝ }
     ensures { λ r. ⌜ (r ≤ length (now (out .exit))) × (r ≡ length (take r (now (out .exit)))) ⌝ }
@@ -134,7 +141,7 @@ fn accepted_line(from: &[u8], n: usize, text: &mut [u8]) -> usize
 }
 
 // Lowers a contract sheet to `out` and puts the line of the answer into `text`, with zeros behind it. Gives the line's length.
-pub fn lower_line(sheet: &[u8], out: &mut [u8; 32768], text: &mut [u8; 98307]) -> usize
+pub fn lower_line(sheet: &[u8], out: &mut [u8; MOST], text: &mut [u8; LOWERED_LINE]) -> usize
     ensures { λ r. ⌜ now (text .exit) ≡ padded 98307 (loweredLine (lowerSheet (now (sheet .entry)) 32768)) ⌝ }
     ensures { λ r. ⌜ r ≡ length (loweredLine (lowerSheet (now (sheet .entry)) 32768)) ⌝ }
     ensures { λ r. ⌜ (r ≤ length (now (text .exit))) × (r ≡ length (take r (now (text .exit)))) ⌝ }

@@ -4,7 +4,7 @@ use mathlib.Core.List.{List, [], _∷_, _++_, append-assoc, append-nil}
 use Prim.Native.Nat.{ℕ, zero, suc, _+_, _-_, _≤_, _<_}
 use native.Mathlib.Numerals.{add-one}
 use native.Mathlib.Omega.{arith}
-use borrow.Author.Tests.{eq-eqb, ne-eqb}
+use borrow.Author.Tests.{eq-eqb, ne-eqb, lt-leb, le-leb}
 use lib.ListN.{length, drop, length-drop}
 use lib.Seq.{length-take-le}
 use Rattle.definitions.specs.Fields.{le}
@@ -23,6 +23,7 @@ use Rattle.contract_nodes.specs.Ready.{Ready, treeAt, functionAt, paramsFrom}
 use Rattle.sheet.specs.Passed.{ContractPassed}
 use Rattle.definitions.proofs.Contracts.Limits.{TopKind, gather-here, gather-past}
 use Rattle.contract_nodes.proofs.Tops.{Tops, Top, next-top, contract-at, function-at}
+use Rattle.lower_walk.specs.Log.{capped}
 use Rattle.lower_walk.specs.Stmts.{LogCtx}
 use Rattle.lower_walk.proofs.Functions.{Whole, Same, function-same}
 use Rattle.lower_state.specs.Errors.{errorOf}
@@ -83,18 +84,21 @@ module _ {s : List ℕ} {at : ℕ} (R : Ready Class.function s at 39) {i : ℕ} 
         go : {l : Lowering IrFunction} {c : LogCtx} → Same i (functionAt s at) l (ok c) → (g : IrFunction) × ((l ≡ ok g) × Whole i (functionAt s at) g c)
         go (Same.done g c w) = (g, (refl, w))
 
+    low : c .to ≤ 32768 → capped (c .to) ≤ 32768
+    low h = rw (le-leb (c .to) 32768 h) h
+
     pub within : c .to ≤ 32768 → Within (startsOf tables′) (stopsOf tables′) (c .counters .block) (c .to)
-    within = walked .1 .1 .ordered
+    within h = rw (le-leb (c .to) 32768 h) at (walked .1 .1 .ordered (low h))
 
     -- laid down from a log that fits, or lost
     pub put : {before after : List ℕ} {to p : ℕ} → (c .to ≤ 32768 → Laid (recordOf s at i log tables′ c) before to after p) → (32768 < c .to → (length after ≡ length before) × (p ≡ 32769)) → FunctionPlaced (readContract s) i (functionAt s at) before to after (placed.To p)
-    put {before} {after} {to} {p} fits lost = (walked .0, (walked .1 .0, either (c .to) 32768 (λ h. rw (walked .1 .1 .kept h) (filled-of (fits h))) over))
+    put {before} {after} {to} {p} fits lost = (walked .0, (walked .1 .0, either (c .to) 32768 (λ h. rw (walked .1 .1 .kept (low h)) (filled-of (fits h))) over))
       where
         over : 32768 < c .to → Filled (writeTree (functionTree (walked .0))) before to after p
         over h =
             let l = lost h in
             let w : roomOf (length before) ≤ 32768 = room-low (length before) .0 in
-            let m = walked .1 .1 .lost h in
+            let m = walked .1 .1 .lost (rw (lt-leb (c .to) 32768 h) (omega arith)) in
             record { same-length = l .0; fits = λ o. absurd (omega arith); over = λ o. omega (arith, l .1) }
 
 -- THE FUNCTIONS: `gs` are done, and those from `at` on are left

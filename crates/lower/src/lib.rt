@@ -15,6 +15,7 @@ ghost use Rattle.lower.specs.Whole.{Begins, FunctionWalked, FunctionPlac
 ghost use Rattle.lower.specs.declared.Answer.the-variants as answer;
 use format::HEAD;
 use format::KIND;
+use format::MOST;
 use format::contract;
 use format::kinds;
 use ir::FunctionId;
@@ -22,6 +23,7 @@ use ir::Name;
 use lower_counters::next_value;
 use lower_flow::MadeLocal;
 use lower_flow::Step;
+use lower_flow::make::count;
 use lower_flow::make::init_local;
 use lower_flow::terminate::return_if_open;
 use lower_flow::terminate::switch_to;
@@ -31,7 +33,10 @@ use lower_names::Top;
 use lower_names::held;
 use lower_names::types::parse_ir_type;
 use lower_state::FnCtx;
+use lower_state::Log;
 use lower_state::LoweringError;
+use lower_state::TABLES;
+use lower_state::Tables;
 use lower_state::new_ctx;
 use lower_state::with_counters;
 use lower_stmts::lower_stmts;
@@ -70,8 +75,8 @@ fn lower_params(
     at: usize,
     n: usize,
     ctx: FnCtx,
-    log: &mut [u8; 32768],
-    tables: &mut [usize; 768],
+    log: &mut Log,
+    tables: &mut Tables,
 ) -> Begun
     requires { ⌜ (at + 4 * n ≤ length (now s)) × ((n ≤ 16) × (Sound ctx × (length (now s) ≤ 32768))) ⌝ }
     ensures { λ r. ⌜ Begins (now (s .entry)) at n (now (log .entry)) (now (tables .entry)) ctx (now (log .exit)) (now (tables .exit)) r ⌝ }
@@ -119,8 +124,8 @@ fn lower_function(
     s: &[u8],
     at: usize,
     function: FunctionId,
-    log: &mut [u8; 32768],
-    tables: &mut [usize; 768],
+    log: &mut Log,
+    tables: &mut Tables,
 ) -> Step
     requires { ⌜ ContractPassed (now s) × Ready Class.function (now s) at 39 ⌝ }
     ensures { λ r. ⌜ FunctionWalked (now (s .entry)) at (function .0) (now (tables .entry)) (now (log .exit)) (now (tables .exit)) r ⌝ }
@@ -146,20 +151,13 @@ fn lower_function(
     }
 }
 
-// Shows the length of an array that is lent.
-fn count(a: &[usize]) -> usize
-    ensures { λ r. ⌜ r ≡ length (now (a .entry)) ⌝ }
-{
-    a.len()
-}
-
 // The function at a place: it is walked, and then laid down at `to`. Gives the place after it.
 fn place_function(
     s: &[u8],
     at: usize,
     function: FunctionId,
-    log: &mut [u8; 32768],
-    tables: &mut [usize; 768],
+    log: &mut Log,
+    tables: &mut Tables,
     out: &mut [u8],
     to: usize,
 ) -> Placed
@@ -179,8 +177,8 @@ fn place_functions(s: &[u8], out: &mut [u8]) -> Placed
     requires { ⌜ ContractPassed (now s) ⌝ }
     ensures { λ r. ⌜ FunctionsPlaced (readContract (now (s .entry))) (now (out .entry)) (now (out .exit)) r ⌝ }
 {
-    let mut log = [0u8; 32768];
-    let mut tables = [0usize; 768];
+    let mut log = [0u8; MOST];
+    let mut tables = [0u32; TABLES];
     let mut to = HEAD;
     let mut i: u16 = 0;
     let mut at = contract::CHILDREN;

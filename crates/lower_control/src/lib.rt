@@ -8,6 +8,7 @@ ghost use Rattle.lower_walk.specs.Stmts.{twoLocals, forHeader, forBlocks, forNe
 ghost use Rattle.lower_state.specs.State.{Sound};
 ghost use Rattle.lower_flow.specs.Flows.{boundsOf, Changes, MakesBlocks, MakesBounds};
 ghost use Rattle.lower_flow.specs.Done.{EntersIf, EntersWhile, EntersFor, leavesFor};
+use format::operators;
 use ir::BlockId;
 use ir::IrType;
 use ir::LocalId;
@@ -24,25 +25,23 @@ use lower_flow::make::three_blocks;
 use lower_flow::terminate::branch;
 use lower_flow::terminate::jump;
 use lower_flow::terminate::switch_to;
+use lower_names::Entries;
 use lower_names::Top;
 use lower_state::FnCtx;
+use lower_state::Log;
+use lower_state::Tables;
 use reader::read;
-
-// The operators of a For, as a sheet numbers them.
-const ADD: usize = 0;
-
-const LT: usize = 6;
 
 // If: the condition at a place, the blocks and the branch; the then block is open.
 pub fn enter_if(
     s: &[u8],
     at: usize,
     depth: usize,
-    entries: &[u64; 256],
+    entries: &Entries,
     top: Top,
     ctx: FnCtx,
-    log: &mut [u8; 32768],
-    tables: &mut [usize; 768],
+    log: &mut Log,
+    tables: &mut Tables,
 ) -> MadeBlocks
     requires { ⌜ Ready Class.expression (now s) at depth × (ContractPassed (now s) × (Sound ctx × (top .count ≤ 256))) ⌝ }
     ensures { λ r. ⌜ EntersIf (now (s .entry)) at (now (entries .entry)) top (now (log .entry)) (now (tables .entry)) ctx (now (log .exit)) (now (tables .exit)) r ⌝ }
@@ -69,11 +68,11 @@ pub fn enter_while(
     s: &[u8],
     at: usize,
     depth: usize,
-    entries: &[u64; 256],
+    entries: &Entries,
     top: Top,
     ctx: FnCtx,
-    log: &mut [u8; 32768],
-    tables: &mut [usize; 768],
+    log: &mut Log,
+    tables: &mut Tables,
 ) -> MadeBlocks
     requires { ⌜ Ready Class.expression (now s) at depth × (ContractPassed (now s) × (Sound ctx × (top .count ≤ 256))) ⌝ }
     ensures { λ r. ⌜ EntersWhile (now (s .entry)) at (now (entries .entry)) top (now (log .entry)) (now (tables .entry)) ctx (now (log .exit)) (now (tables .exit)) r ⌝ }
@@ -103,8 +102,8 @@ fn two_locals(
     ctx: FnCtx,
     start: ValueId,
     end: ValueId,
-    log: &mut [u8; 32768],
-    tables: &mut [usize; 768],
+    log: &mut Log,
+    tables: &mut Tables,
 ) -> MadeBounds
     requires { ⌜ Sound ctx ⌝ }
     ensures { λ r. ⌜ MakesBounds (twoLocals (start .0) (end .0)) (now (log .entry)) (now (tables .entry)) ctx (now (log .exit)) (now (tables .exit)) r ⌝ }
@@ -127,11 +126,11 @@ pub fn for_locals(
     s: &[u8],
     at: usize,
     depth: usize,
-    entries: &[u64; 256],
+    entries: &Entries,
     top: Top,
     ctx: FnCtx,
-    log: &mut [u8; 32768],
-    tables: &mut [usize; 768],
+    log: &mut Log,
+    tables: &mut Tables,
 ) -> MadeBounds
     requires { ⌜ Ready Class.expression (now s) at depth × Ready Class.expression (now s) (stopOf (now s) at) depth ⌝ }
     requires { ⌜ ContractPassed (now s) × (Sound ctx × (top .count ≤ 256)) ⌝ }
@@ -157,25 +156,20 @@ fn for_header(
     bounds: Bounds,
     body: BlockId,
     exit: BlockId,
-    log: &mut [u8; 32768],
-    tables: &mut [usize; 768],
+    log: &mut Log,
+    tables: &mut Tables,
 ) -> FnCtx
     requires { ⌜ Sound ctx ⌝ }
     ensures { λ r. ⌜ Changes (forHeader (boundsOf bounds) (body .0) (exit .0)) (now (log .entry)) (now (tables .entry)) ctx (now (log .exit)) (now (tables .exit)) r ⌝ }
 {
     let i = lower_emit::emit_read_local(log, ctx, bounds.var, IrType::U64);
     let end = lower_emit::emit_read_local(log, i.ctx, bounds.end, IrType::U64);
-    let test = lower_emit::emit_binary(log, end.ctx, LT, IrType::U64, i.id, end.id);
+    let test = lower_emit::emit_binary(log, end.ctx, operators::LT, IrType::U64, i.id, end.id);
     branch(test.ctx, test.id, body, exit, log, tables)
 }
 
 // For: the blocks and the header; the body is open.
-pub fn for_blocks(
-    ctx: FnCtx,
-    bounds: Bounds,
-    log: &mut [u8; 32768],
-    tables: &mut [usize; 768],
-) -> MadeBlocks
+pub fn for_blocks(ctx: FnCtx, bounds: Bounds, log: &mut Log, tables: &mut Tables) -> MadeBlocks
     requires { ⌜ Sound ctx ⌝ }
     ensures { λ r. ⌜ MakesBlocks (forBlocks (boundsOf bounds)) (now (log .entry)) (now (tables .entry)) ctx (now (log .exit)) (now (tables .exit)) r ⌝ }
 {
@@ -194,19 +188,13 @@ pub fn for_blocks(
 }
 
 // The step of a For and the jump back.
-fn for_step(
-    ctx: FnCtx,
-    var: LocalId,
-    header: BlockId,
-    log: &mut [u8; 32768],
-    tables: &mut [usize; 768],
-) -> FnCtx
+fn for_step(ctx: FnCtx, var: LocalId, header: BlockId, log: &mut Log, tables: &mut Tables) -> FnCtx
     requires { ⌜ Sound ctx ⌝ }
     ensures { λ r. ⌜ Changes (forNext (var .0) (header .0)) (now (log .entry)) (now (tables .entry)) ctx (now (log .exit)) (now (tables .exit)) r ⌝ }
 {
     let i = lower_emit::emit_read_local(log, ctx, var, IrType::U64);
     let one = lower_emit::emit_const(log, i.ctx, 1);
-    let sum = lower_emit::emit_binary(log, one.ctx, ADD, IrType::U64, i.id, one.id);
+    let sum = lower_emit::emit_binary(log, one.ctx, operators::ADD, IrType::U64, i.id, one.id);
     let next = lower_emit::emit_write_local(log, sum.ctx, var, sum.id);
     jump(next, header, log, tables)
 }
@@ -216,8 +204,8 @@ pub fn leave_for(
     ctx: FnCtx,
     var: LocalId,
     blocks: Blocks,
-    log: &mut [u8; 32768],
-    tables: &mut [usize; 768],
+    log: &mut Log,
+    tables: &mut Tables,
 ) -> FnCtx
     requires { ⌜ Sound ctx × (blocks .third .0 < ctx .counters .block) ⌝ }
     ensures { λ r. ⌜ Changes (leavesFor (var .0) blocks) (now (log .entry)) (now (tables .entry)) ctx (now (log .exit)) (now (tables .exit)) r ⌝ }

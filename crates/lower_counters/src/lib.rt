@@ -21,11 +21,14 @@ pub enum Kind {
     Local,
 }
 
-// The number of the value after n: ids have 16 bits.
+// How many numbers an id's sixteen bits have.
+const IDS: u32 = 65536;
+
+// The number of the value after n.
 fn value_after(n: u16) -> u16
     ensures { λ r. ⌜ r ≡ suc n % 65536 ⌝ }
 {
-    ((n as u32 + 1) % 65536) as u16
+    ((n as u32 + 1) % IDS) as u16
 }
 
 // The next number of the kind.

@@ -10,7 +10,7 @@ use borrow.Author.Tests.{leb-false, lt-leb, le-leb}
 use lib.Dec.{leb}
 use lib.ListN.{length, take, drop, length-append}
 use lib.Seq.{sets, sets-eq, take-at, length-take-le}
-use Rattle.lower_walk.specs.Log.{Log, room, append, logOf, counted}
+use Rattle.lower_walk.specs.Log.{Log, room, append, capped, logOf, counted}
 use Rattle.lower_emit.specs.Bytes.{Added}
 
 -- what does not fit, and what does
@@ -47,7 +47,11 @@ _then_ {l} {x} {m} {y} {n} {at} a b = record { is = λ w. b .is w ∙ ap (append
 
 -- there is no room for x
 pub put-lost : (l x : List ℕ) (at : ℕ) → room < at + length x → Added l at x l (suc room)
-put-lost l x at h = record { is = λ w. sym (lost x (logOf l w at) h) }
+put-lost l x at h = record { is = λ w. sym (lost x (logOf l w at) (go (leb at room) refl)) }
+  where
+    go : (t : Bool) → leb at room ≡ t → room < capped at + length x
+    go true q = rw q h
+    go false q = rw q (omega arith)
 
 -- there is, and x is stored
 pub put-kept : (l x : List ℕ) (at n : ℕ) → length x ≡ n → length l ≡ room → at + n ≤ room → Added l at x (sets l at x) (at + n)
@@ -55,4 +59,4 @@ put-kept l x at n e f h =
     let a : at + length x ≤ length l = omega arith in
     let b : length (take at l ++ x) ≡ at + n = rw (length-append, length-take-le at l (omega arith)) (omega arith) in
     let t : take (at + n) (sets l at x) ≡ take at l ++ x = rw (sets-eq x l at a, take-at (take at l ++ x) (drop (at + length x) l) (at + n) b) in
-    record { is = λ w. rw (kept x (logOf l w at) (omega arith), e, le-leb (at + n) room h, le-leb at room (omega arith), t) }
+    record { is = λ w. rw (kept x (logOf l w at) (rw (le-leb at room (omega arith)) (omega arith)), e, le-leb (at + n) room h, le-leb at room (omega arith), t) }

@@ -14,6 +14,7 @@ ghost use Rattle.lower_emit.specs.Emitted.{idsOf, pushedAt, movedTo, Pus
 use format::ABSENT;
 use format::MOST;
 use format::kinds;
+use format::operators;
 use format::program;
 use ir::BlockId;
 use ir::FunctionId;
@@ -27,6 +28,8 @@ use ir::type_code;
 use lower_counters::CountedValue;
 use lower_counters::next_value;
 use lower_state::FnCtx;
+use lower_state::LOST;
+use lower_state::Log;
 
 // After an instruction that gives a value: the state, and the value.
 pub struct Pushed {
@@ -62,12 +65,12 @@ fn after_record(ctx: FnCtx, to: usize) -> FnCtx
 }
 
 // The n bytes of v, behind what is there.
-fn put(log: &mut [u8; 32768], at: usize, n: usize, v: usize) -> usize
+fn put(log: &mut Log, at: usize, n: usize, v: usize) -> usize
     requires { ⌜ n ≤ 8 ⌝ }
     ensures { λ r. ⌜ Added (now (log .entry)) at (bytes n v) (now (log .exit)) r ⌝ }
 {
     if MOST - n < at {
-        return MOST + 1;
+        return LOST;
     }
     writer::write(log, at, n, v);
     at + n
@@ -81,7 +84,7 @@ const NOTHING: Part = Part(0, 0);
 // A record: its length, its kind, the two bytes that its fields start with, up to three more parts, and so many bytes that are still to
 // come.
 fn put_record(
-    log: &mut [u8; 32768],
+    log: &mut Log,
     at: usize,
     kind: usize,
     first: u16,
@@ -103,7 +106,7 @@ fn put_record(
 }
 
 // The first n ids of a list, behind bytes that were just appended.
-fn put_ids(log: &mut [u8; 32768], at: usize, ids: [ValueId; 16], n: usize) -> usize
+fn put_ids(log: &mut Log, at: usize, ids: [ValueId; 16], n: usize) -> usize
     requires { ⌜ n ≤ 16 ⌝ }
     ensures { λ r. ⌜ ((l x : List ℕ) (from : ℕ) → Added l from x (now (log .entry)) at → Added l from (x ++ idBytes (idsOf ids n)) (now (log .exit)) r) ⌝ }
 {
@@ -118,7 +121,7 @@ fn put_ids(log: &mut [u8; 32768], at: usize, ids: [ValueId; 16], n: usize) -> us
 }
 
 // Const, of type U64.
-pub fn emit_const(log: &mut [u8; 32768], ctx: FnCtx, value: usize) -> Pushed
+pub fn emit_const(log: &mut Log, ctx: FnCtx, value: usize) -> Pushed
     ensures { λ r. ⌜ Pushes (Instruction.Const defs.IrType.U64 value) (now (log .entry)) ctx (now (log .exit)) r ⌝ }
 {
     let taken = next_value(ctx.counters);
@@ -142,15 +145,15 @@ fn binary_kind(op: usize) -> usize
     ensures { λ r. ⌜ ((ty : defs.IrType) (l m : ℕ) → r ≡ kindOf (Instruction.Binary (opOf op) ty l m)) ⌝ }
 {
     match op {
-        7 => kinds::GT,
-        8 => kinds::LE,
+        operators::GT => kinds::GT,
+        operators::LTE => kinds::LE,
         _ => kinds::ADD + op,
     }
 }
 
 // The ten operators.
 pub fn emit_binary(
-    log: &mut [u8; 32768],
+    log: &mut Log,
     ctx: FnCtx,
     op: usize,
     ty: IrType,
@@ -178,7 +181,7 @@ pub fn emit_binary(
 }
 
 // Load, of type U64.
-pub fn emit_load(log: &mut [u8; 32768], ctx: FnCtx, base: ValueId, offset: usize) -> Pushed
+pub fn emit_load(log: &mut Log, ctx: FnCtx, base: ValueId, offset: usize) -> Pushed
     ensures { λ r. ⌜ Pushes (Instruction.Load defs.IrType.U64 (base .0) offset) (now (log .entry)) ctx (now (log .exit)) r ⌝ }
 {
     let taken = next_value(ctx.counters);
@@ -197,7 +200,7 @@ pub fn emit_load(log: &mut [u8; 32768], ctx: FnCtx, base: ValueId, offset: usize
 }
 
 // StateRead, of type U64.
-pub fn emit_state_read(log: &mut [u8; 32768], ctx: FnCtx, slot: usize) -> Pushed
+pub fn emit_state_read(log: &mut Log, ctx: FnCtx, slot: usize) -> Pushed
     ensures { λ r. ⌜ Pushes (Instruction.StateRead defs.IrType.U64 slot) (now (log .entry)) ctx (now (log .exit)) r ⌝ }
 {
     let taken = next_value(ctx.counters);
@@ -215,7 +218,7 @@ pub fn emit_state_read(log: &mut [u8; 32768], ctx: FnCtx, slot: usize) -> Pushed
     after_value(ctx, taken, to)
 }
 
-pub fn emit_state_write(log: &mut [u8; 32768], ctx: FnCtx, slot: usize, value: ValueId) -> FnCtx
+pub fn emit_state_write(log: &mut Log, ctx: FnCtx, slot: usize, value: ValueId) -> FnCtx
     ensures { λ r. ⌜ Appends (Instruction.StateWrite slot (value .0)) (now (log .entry)) ctx (now (log .exit)) r ⌝ }
 {
     let to = put_record(
@@ -231,7 +234,7 @@ pub fn emit_state_write(log: &mut [u8; 32768], ctx: FnCtx, slot: usize, value: V
     after_record(ctx, to)
 }
 
-pub fn emit_read_local(log: &mut [u8; 32768], ctx: FnCtx, local: LocalId, ty: IrType) -> Pushed
+pub fn emit_read_local(log: &mut Log, ctx: FnCtx, local: LocalId, ty: IrType) -> Pushed
     ensures { λ r. ⌜ Pushes (Instruction.ReadLocal (local .0) (asType ty)) (now (log .entry)) ctx (now (log .exit)) r ⌝ }
 {
     let taken = next_value(ctx.counters);
@@ -249,7 +252,7 @@ pub fn emit_read_local(log: &mut [u8; 32768], ctx: FnCtx, local: LocalId, ty: Ir
     after_value(ctx, taken, to)
 }
 
-pub fn emit_write_local(log: &mut [u8; 32768], ctx: FnCtx, local: LocalId, value: ValueId) -> FnCtx
+pub fn emit_write_local(log: &mut Log, ctx: FnCtx, local: LocalId, value: ValueId) -> FnCtx
     ensures { λ r. ⌜ Appends (Instruction.WriteLocal (local .0) (value .0)) (now (log .entry)) ctx (now (log .exit)) r ⌝ }
 {
     let to = put_record(
@@ -267,7 +270,7 @@ pub fn emit_write_local(log: &mut [u8; 32768], ctx: FnCtx, local: LocalId, value
 
 // The bytes of a Call whose result is `first`.
 fn put_call(
-    log: &mut [u8; 32768],
+    log: &mut Log,
     at: usize,
     first: u16,
     function: FunctionId,
@@ -293,7 +296,7 @@ fn put_call(
 
 // Call of a function that gives a value.
 pub fn emit_call(
-    log: &mut [u8; 32768],
+    log: &mut Log,
     ctx: FnCtx,
     function: FunctionId,
     ty: IrType,
@@ -311,7 +314,7 @@ pub fn emit_call(
 
 // Call of a function that gives none.
 pub fn emit_call_void(
-    log: &mut [u8; 32768],
+    log: &mut Log,
     ctx: FnCtx,
     function: FunctionId,
     args: [ValueId; 16],
@@ -324,7 +327,7 @@ pub fn emit_call_void(
     after_record(ctx, to)
 }
 
-pub fn emit_assert(log: &mut [u8; 32768], ctx: FnCtx, condition: ValueId) -> FnCtx
+pub fn emit_assert(log: &mut Log, ctx: FnCtx, condition: ValueId) -> FnCtx
     ensures { λ r. ⌜ Appends (Instruction.Assert (condition .0)) (now (log .entry)) ctx (now (log .exit)) r ⌝ }
 {
     let to = put_record(
@@ -340,7 +343,7 @@ pub fn emit_assert(log: &mut [u8; 32768], ctx: FnCtx, condition: ValueId) -> FnC
     after_record(ctx, to)
 }
 
-pub fn emit_poseidon(log: &mut [u8; 32768], ctx: FnCtx, lhs: ValueId, rhs: ValueId) -> Pushed
+pub fn emit_poseidon(log: &mut Log, ctx: FnCtx, lhs: ValueId, rhs: ValueId) -> Pushed
     ensures { λ r. ⌜ Pushes (Instruction.Poseidon (lhs .0) (rhs .0)) (now (log .entry)) ctx (now (log .exit)) r ⌝ }
 {
     let taken = next_value(ctx.counters);
@@ -359,13 +362,7 @@ pub fn emit_poseidon(log: &mut [u8; 32768], ctx: FnCtx, lhs: ValueId, rhs: Value
 }
 
 // Emit.
-pub fn emit_event(
-    log: &mut [u8; 32768],
-    ctx: FnCtx,
-    event: Name,
-    args: [ValueId; 16],
-    n: usize,
-) -> FnCtx
+pub fn emit_event(log: &mut Log, ctx: FnCtx, event: Name, args: [ValueId; 16], n: usize) -> FnCtx
     requires { ⌜ n ≤ 16 ⌝ }
     ensures { λ r. ⌜ Appends (Instruction.Emit (event .0) (idsOf args n)) (now (log .entry)) ctx (now (log .exit)) r ⌝ }
 {
@@ -383,7 +380,7 @@ pub fn emit_event(
     after_record(ctx, to)
 }
 
-pub fn emit_context_read(log: &mut [u8; 32768], ctx: FnCtx, kind: usize) -> Pushed
+pub fn emit_context_read(log: &mut Log, ctx: FnCtx, kind: usize) -> Pushed
     ensures { λ r. ⌜ Pushes (Instruction.ContextRead kind) (now (log .entry)) ctx (now (log .exit)) r ⌝ }
 {
     let taken = next_value(ctx.counters);
@@ -402,13 +399,13 @@ pub fn emit_context_read(log: &mut [u8; 32768], ctx: FnCtx, kind: usize) -> Push
 }
 
 // A terminator of one id.
-fn put_terminator(log: &mut [u8; 32768], at: usize, kind: usize, id: u16) -> usize
+fn put_terminator(log: &mut Log, at: usize, kind: usize, id: u16) -> usize
     ensures { λ r. ⌜ Added (now (log .entry)) at (terminatorBytes kind id) (now (log .exit)) r ⌝ }
 {
     put_record(log, at, kind, id, NOTHING, NOTHING, NOTHING, 0)
 }
 
-pub fn emit_jump(log: &mut [u8; 32768], ctx: FnCtx, target: BlockId) -> FnCtx
+pub fn emit_jump(log: &mut Log, ctx: FnCtx, target: BlockId) -> FnCtx
     ensures { λ r. ⌜ Closes (Terminator.Jump (target .0)) (now (log .entry)) ctx (now (log .exit)) r ⌝ }
 {
     let to = put_terminator(log, ctx.to, kinds::JUMP, target.0);
@@ -416,7 +413,7 @@ pub fn emit_jump(log: &mut [u8; 32768], ctx: FnCtx, target: BlockId) -> FnCtx
 }
 
 pub fn emit_branch(
-    log: &mut [u8; 32768],
+    log: &mut Log,
     ctx: FnCtx,
     condition: ValueId,
     then_block: BlockId,
@@ -438,7 +435,7 @@ pub fn emit_branch(
 }
 
 // Return of a value.
-pub fn emit_return(log: &mut [u8; 32768], ctx: FnCtx, value: ValueId) -> FnCtx
+pub fn emit_return(log: &mut Log, ctx: FnCtx, value: ValueId) -> FnCtx
     ensures { λ r. ⌜ Closes (Terminator.Return (some (value .0))) (now (log .entry)) ctx (now (log .exit)) r ⌝ }
 {
     let to = put_terminator(log, ctx.to, kinds::RETURN, value.0);
@@ -446,7 +443,7 @@ pub fn emit_return(log: &mut [u8; 32768], ctx: FnCtx, value: ValueId) -> FnCtx
 }
 
 // Return without a value.
-pub fn emit_return_none(log: &mut [u8; 32768], ctx: FnCtx) -> FnCtx
+pub fn emit_return_none(log: &mut Log, ctx: FnCtx) -> FnCtx
     ensures { λ r. ⌜ Closes (Terminator.Return none) (now (log .entry)) ctx (now (log .exit)) r ⌝ }
 {
     let to = put_terminator(log, ctx.to, kinds::RETURN, ABSENT);

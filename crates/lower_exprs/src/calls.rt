@@ -14,12 +14,14 @@ ghost use Rattle.lower_exprs.specs.Exprs.{loweredIn, calleeOf, LoweredSa
 use crate::Callee;
 use crate::Lowered;
 use crate::value_of;
+use format::program;
 use ir::FunctionId;
 use ir::IrType;
 use ir::Name;
 use ir::ValueId;
 use lower_names::Signature;
 use lower_state::FnCtx;
+use lower_state::Log;
 use lower_state::LoweringError;
 
 // A function of the contract.
@@ -39,13 +41,13 @@ pub(crate) fn callee(s: &[u8], name: Name, many: usize) -> Callee
     ensures { λ r. ⌜ calleeOf r ≡ resolve (readContract (now (s .entry))) (name .0) many ⌝ }
 {
     if name.0 == Name::MSG_SENDER.0 {
-        return Callee::Context(0);
+        return Callee::Context(program::MSG_SENDER);
     }
     if name.0 == Name::MSG_NONCE.0 {
-        return Callee::Context(1);
+        return Callee::Context(program::MSG_NONCE);
     }
     if name.0 == Name::BLOCK_NUMBER.0 {
-        return Callee::Context(2);
+        return Callee::Context(program::BLOCK_NUMBER);
     }
     if name.0 == Name::POSEIDON.0 {
         if many == 2 {
@@ -78,7 +80,7 @@ fn call_valued(
     args: [ValueId; 16],
     n: usize,
     ctx: FnCtx,
-    log: &mut [u8; 32768],
+    log: &mut Log,
 ) -> Lowered
     requires { ⌜ (n ≤ 16) × (defs.tagOf (asType ty) < 4) ⌝ }
     ensures { λ r. ⌜ loweredIn (now (log .exit)) r ≡ ok (walkUserCall (function .0) (asType ty) (idsOf args n) (logIn (now (log .entry)) ctx)) ⌝ }
@@ -94,7 +96,7 @@ fn call_user(
     args: [ValueId; 16],
     n: usize,
     ctx: FnCtx,
-    log: &mut [u8; 32768],
+    log: &mut Log,
 ) -> Lowered
     requires { ⌜ n ≤ 16 ⌝ }
     ensures { λ r. ⌜ loweredIn (now (log .exit)) r ≡ ok (walkUserCall (function .0) (asType ty) (idsOf args n) (logIn (now (log .entry)) ctx)) ⌝ }
@@ -115,7 +117,7 @@ pub(crate) fn finish_call(
     ids: [ValueId; 16],
     n: usize,
     ctx: FnCtx,
-    log: &mut [u8; 32768],
+    log: &mut Log,
 ) -> Lowered
     requires { ⌜ n ≤ 16 ⌝ }
     ensures { λ r. ⌜ loweredIn (now (log .exit)) r ≡ finishCall (calleeOf callee) (idsOf ids n) (logIn (now (log .entry)) ctx) ⌝ }

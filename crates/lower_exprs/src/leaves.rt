@@ -14,18 +14,21 @@ ghost use Rattle.lower_exprs.specs.Exprs.{loweredIn, valuedIn, fieldOn, 
 use crate::Lowered;
 use crate::Valued;
 use crate::value_of;
+use format::operators;
 use ir::IrType;
 use ir::Name;
 use ir::ValueId;
+use lower_names::Entries;
 use lower_names::Lookup;
 use lower_names::Offset;
 use lower_names::Slot;
 use lower_names::Top;
 use lower_state::FnCtx;
+use lower_state::Log;
 use lower_state::LoweringError;
 
 // An integer.
-pub(crate) fn lower_int(number: usize, ctx: FnCtx, log: &mut [u8; 32768]) -> Lowered
+pub(crate) fn lower_int(number: usize, ctx: FnCtx, log: &mut Log) -> Lowered
     ensures { λ r. ⌜ loweredIn (now (log .exit)) r ≡ ok (pushValue (Instruction.Const defs.IrType.U64 number) defs.IrType.U64 (logIn (now (log .entry)) ctx)) ⌝ }
     ensures { λ r. ⌜ LoweredSame ctx r ⌝ }
 {
@@ -35,10 +38,10 @@ pub(crate) fn lower_int(number: usize, ctx: FnCtx, log: &mut [u8; 32768]) -> Low
 // A name that is held.
 pub(crate) fn lower_ident(
     name: Name,
-    entries: &[u64; 256],
+    entries: &Entries,
     top: Top,
     ctx: FnCtx,
-    log: &mut [u8; 32768],
+    log: &mut Log,
 ) -> Lowered
     requires { ⌜ top .count ≤ 256 ⌝ }
     ensures { λ r. ⌜ loweredIn (now (log .exit)) r ≡ walkIdent (heldIn (now (entries .entry)) (top .count)) (name .0) (logIn (now (log .entry)) ctx) ⌝ }
@@ -51,7 +54,7 @@ pub(crate) fn lower_ident(
 }
 
 // A storage field.
-pub(crate) fn lower_storage_read(s: &[u8], name: Name, ctx: FnCtx, log: &mut [u8; 32768]) -> Lowered
+pub(crate) fn lower_storage_read(s: &[u8], name: Name, ctx: FnCtx, log: &mut Log) -> Lowered
     requires { ⌜ ContractPassed (now s) ⌝ }
     ensures { λ r. ⌜ loweredIn (now (log .exit)) r ≡ walkStorageRead (readContract (now (s .entry))) (name .0) (logIn (now (log .entry)) ctx) ⌝ }
     ensures { λ r. ⌜ LoweredSame ctx r ⌝ }
@@ -69,7 +72,7 @@ fn read_field(
     base: ValueId,
     ty: IrType,
     ctx: FnCtx,
-    log: &mut [u8; 32768],
+    log: &mut Log,
 ) -> Lowered
     requires { ⌜ ContractPassed (now s) ⌝ }
     ensures { λ r. ⌜ loweredIn (now (log .exit)) r ≡ walkField (readContract (now (s .entry))) (field .0) (base .0) (asType ty) (logIn (now (log .entry)) ctx) ⌝ }
@@ -82,7 +85,7 @@ fn read_field(
 }
 
 // A field of what came of an expression.
-pub(crate) fn lower_field(s: &[u8], field: Name, base: Valued, log: &mut [u8; 32768]) -> Lowered
+pub(crate) fn lower_field(s: &[u8], field: Name, base: Valued, log: &mut Log) -> Lowered
     requires { ⌜ ContractPassed (now s) ⌝ }
     ensures { λ r. ⌜ loweredIn (now (log .exit)) r ≡ fieldOn (readContract (now (s .entry))) (field .0) (valuedIn (now (log .entry)) base) ⌝ }
     ensures { λ r. ⌜ AfterSame base r ⌝ }
@@ -98,7 +101,7 @@ fn binary_type(op: usize, ty: IrType) -> IrType
     requires { ⌜ op ≤ 9 ⌝ }
     ensures { λ r. ⌜ asType r ≡ binaryType (opOf op) (asType ty) ⌝ }
 {
-    if op < 4 { ty } else { IrType::Bool }
+    if op < operators::EQ { ty } else { IrType::Bool }
 }
 
 // An operator on the value lhs of type ty and what came of the right operand.
@@ -107,7 +110,7 @@ pub(crate) fn lower_binary(
     ty: IrType,
     lhs: ValueId,
     right: Valued,
-    log: &mut [u8; 32768],
+    log: &mut Log,
 ) -> Lowered
     requires { ⌜ op ≤ 9 ⌝ }
     ensures { λ r. ⌜ loweredIn (now (log .exit)) r ≡ binaryOn (opOf op) (asType ty) (lhs .0) (valuedIn (now (log .entry)) right) ⌝ }

@@ -18,8 +18,10 @@ use ir::Name;
 use ir::ValueId;
 use lower_counters::Counters;
 use lower_emit::Pushed;
+use lower_names::Entries;
 use lower_names::Top;
 use lower_state::FnCtx;
+use lower_state::Log;
 use lower_state::LoweringError;
 use reader::read;
 use reader::read_u16;
@@ -62,10 +64,10 @@ pub fn lower_expr(
     s: &[u8],
     at: usize,
     depth: usize,
-    entries: &[u64; 256],
+    entries: &Entries,
     top: Top,
     ctx: FnCtx,
-    log: &mut [u8; 32768],
+    log: &mut Log,
 ) -> Lowered
     requires { ⌜ Ready Class.expression (now s) at depth × (ContractPassed (now s) × (top .count ≤ 256)) ⌝ }
     ensures { λ r. ⌜ loweredIn (now (log .exit)) r ≡ exprOn (now (s .entry)) at (now (entries .entry)) top (now (log .entry)) ctx ⌝ }
@@ -132,10 +134,10 @@ pub fn lower_expr_value(
     s: &[u8],
     at: usize,
     depth: usize,
-    entries: &[u64; 256],
+    entries: &Entries,
     top: Top,
     ctx: FnCtx,
-    log: &mut [u8; 32768],
+    log: &mut Log,
 ) -> Valued
     requires { ⌜ Ready Class.expression (now s) at depth × (ContractPassed (now s) × (top .count ≤ 256)) ⌝ }
     ensures { λ r. ⌜ valuedIn (now (log .exit)) r ≡ exprValueOn (now (s .entry)) at (now (entries .entry)) top (now (log .entry)) ctx ⌝ }
@@ -154,10 +156,10 @@ fn lower_call(
     s: &[u8],
     at: usize,
     depth: usize,
-    entries: &[u64; 256],
+    entries: &Entries,
     top: Top,
     ctx: FnCtx,
-    log: &mut [u8; 32768],
+    log: &mut Log,
 ) -> Lowered
     requires { ⌜ Ready Class.expression (now s) at depth × (ContractPassed (now s) × (top .count ≤ 256)) ⌝ }
     requires { ⌜ recordKind (now s) at ≡ 37 ⌝ }

@@ -16,10 +16,12 @@ use ir::type_code;
 use lower_counters::next_block;
 use lower_counters::next_local;
 use lower_state::FnCtx;
+use lower_state::Log;
 use lower_state::LoweringError;
 use lower_state::MOST_BLOCKS;
 use lower_state::MOST_LOCALS;
 use lower_state::TYPES;
+use lower_state::Tables;
 use lower_state::with_counters;
 
 // Three blocks.
@@ -48,8 +50,8 @@ pub fn three_blocks(ctx: FnCtx) -> MadeBlocks
     )
 }
 
-// Shows the length of an array that is lent.
-fn count(tables: &[usize]) -> usize
+// Shows how long the tables are, and changes nothing: the length of an array is told only where it is lent as a slice.
+pub fn count(tables: &[u32]) -> usize
     ensures { λ r. ⌜ r ≡ length (now (tables .entry)) ⌝ }
 {
     tables.len()
@@ -60,8 +62,8 @@ pub fn init_local(
     ctx: FnCtx,
     ty: IrType,
     value: ValueId,
-    log: &mut [u8; 32768],
-    tables: &mut [usize; 768],
+    log: &mut Log,
+    tables: &mut Tables,
 ) -> MadeLocal
     requires { ⌜ Sound ctx ⌝ }
     ensures { λ r. ⌜ MakesLocal (initLocal (asType ty) (value .0)) (now (log .entry)) (now (tables .entry)) ctx (now (log .exit)) (now (tables .exit)) r ⌝ }
@@ -75,7 +77,7 @@ pub fn init_local(
     let taken = next_local(counters);
     let local = taken.id;
     let k = TYPES + local.0 as usize;
-    tables[k] = type_code(ty);
+    tables[k] = type_code(ty) as u32;
     let next = with_counters(ctx, taken.counters);
     MadeLocal::Made(lower_emit::emit_write_local(log, next, local, value), local)
 }

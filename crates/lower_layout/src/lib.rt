@@ -29,9 +29,12 @@ use lower_names::symbols::last_function;
 use lower_names::types::own_return_type;
 use lower_names::types::parse_ir_type;
 use lower_state::FnCtx;
+use lower_state::LOST;
+use lower_state::Log;
 use lower_state::STARTS;
 use lower_state::STOPS;
 use lower_state::TYPES;
+use lower_state::Tables;
 use reader::read;
 use reader::read_u16;
 use writer::copy;
@@ -46,25 +49,25 @@ pub fn room(out: &[u8]) -> usize
 }
 
 // Where the records of a block start in the log.
-fn start_of(tables: &[usize], block: BlockId) -> usize
+fn start_of(tables: &[u32], block: BlockId) -> usize
     requires { ⌜ (length (now tables) ≡ 768) × (block .0 < 256) ⌝ }
     ensures { λ r. ⌜ r ≡ getD (now (tables .entry)) (256 + block .0) 0 ⌝ }
 {
     let k = STARTS + block.0 as usize;
-    tables[k]
+    tables[k] as usize
 }
 
 // Where they stop.
-fn stop_of(tables: &[usize], block: BlockId) -> usize
+fn stop_of(tables: &[u32], block: BlockId) -> usize
     requires { ⌜ (length (now tables) ≡ 768) × (block .0 < 256) ⌝ }
     ensures { λ r. ⌜ r ≡ getD (now (tables .entry)) (512 + block .0) 0 ⌝ }
 {
     let k = STOPS + block.0 as usize;
-    tables[k]
+    tables[k] as usize
 }
 
 // The bytes of n blocks.
-fn blocks_size(tables: &[usize], n: u16) -> usize
+fn blocks_size(tables: &[u32], n: u16) -> usize
     requires { ⌜ (length (now tables) ≡ 768) × ((n ≤ 256) × Within (startsOf (now tables)) (stopsOf (now tables)) n 32768) ⌝ }
     ensures { λ r. ⌜ (r ≡ blocksSize (startsOf (now (tables .entry))) (stopsOf (now (tables .entry))) n) × (r ≤ 32776 * n) ⌝ }
 {
@@ -99,7 +102,7 @@ fn lay_block(
 }
 
 // The first n blocks.
-fn lay_blocks(n: u16, tables: &[usize], log: &[u8], out: &mut [u8], to: usize) -> usize
+fn lay_blocks(n: u16, tables: &[u32], log: &[u8], out: &mut [u8], to: usize) -> usize
     requires { ⌜ (length (now tables) ≡ 768) × ((n ≤ 256) × Within (startsOf (now tables)) (stopsOf (now tables)) n (length (now log))) ⌝ }
     requires { ⌜ to + length (blocksOf (now log) (now tables) n) ≤ length (now out) ⌝ }
     ensures { λ r. ⌜ Put (blocksOf (now (log .entry)) (now (tables .entry)) n) (now (out .entry)) to (now (out .exit)) r ⌝ }
@@ -141,7 +144,7 @@ fn lay_params(s: &[u8], at: usize, n: usize, out: &mut [u8], to: usize) -> usize
 }
 
 // The types of the locals, behind their count.
-fn lay_locals(n: usize, tables: &[usize], out: &mut [u8], to: usize) -> usize
+fn lay_locals(n: usize, tables: &[u32], out: &mut [u8], to: usize) -> usize
     requires { ⌜ (n ≤ length (now tables)) × (to + (2 + 4 * n) ≤ length (now out)) ⌝ }
     ensures { λ r. ⌜ Put (writeValue (group (map ty (localsOf (now (tables .entry)) n)))) (now (out .entry)) to (now (out .exit)) r ⌝ }
 {
@@ -150,7 +153,7 @@ fn lay_locals(n: usize, tables: &[usize], out: &mut [u8], to: usize) -> usize
     let mut i = 0;
     while i < n {
         let k = TYPES + i;
-        let code = type_code(type_of_code(tables[k]));
+        let code = type_code(type_of_code(tables[k] as usize));
         write(out, place, 4, code);
         place += TYPE;
         i += 1;
@@ -165,7 +168,7 @@ fn lay_head(
     size: usize,
     function: FunctionId,
     locals: usize,
-    tables: &[usize],
+    tables: &[u32],
     out: &mut [u8],
     to: usize,
 ) -> usize
@@ -195,7 +198,7 @@ fn lay_whole(
     function: FunctionId,
     ctx: FnCtx,
     log: &[u8],
-    tables: &[usize],
+    tables: &[u32],
     out: &mut [u8],
     to: usize,
 ) -> usize
@@ -209,10 +212,10 @@ fn lay_whole(
     let size = head + blocks_size(tables, counters.block);
     let most = room(out);
     if most < to {
-        return MOST + 1;
+        return LOST;
     }
     if most - to < size {
-        return MOST + 1;
+        return LOST;
     }
     let place = lay_head(s, at, size, function, locals, tables, out, to);
     lay_blocks(counters.block, tables, log, out, place)
@@ -224,8 +227,8 @@ pub fn lay_function(
     at: usize,
     function: FunctionId,
     ctx: FnCtx,
-    log: &[u8; 32768],
-    tables: &[usize; 768],
+    log: &Log,
+    tables: &Tables,
     out: &mut [u8],
     to: usize,
 ) -> usize
@@ -234,7 +237,7 @@ pub fn lay_function(
     ensures { λ r. ⌜ LaidOrLost (now (s .entry)) at (function .0) (now (log .entry)) (now (tables .entry)) ctx (now (out .entry)) to (now (out .exit)) r ⌝ }
 {
     if MOST < ctx.to {
-        return MOST + 1;
+        return LOST;
     }
     lay_whole(s, at, function, ctx, log, tables, out, to)
 }
@@ -265,10 +268,10 @@ fn lay_name(name: Name, id: FunctionId, out: &mut [u8], to: usize) -> usize
 {
     let most = room(out);
     if most < to {
-        return MOST + 1;
+        return LOST;
     }
     if most - to < NAME_BYTES {
-        return MOST + 1;
+        return LOST;
     }
     write(out, to, 4, NAME_BYTES);
     write(out, to + KIND, 2, kinds::FUNCTION_NAME);
@@ -283,7 +286,7 @@ pub fn lay_names(s: &[u8], out: &mut [u8], to: usize) -> usize
     ensures { λ r. ⌜ Laid (namesOf (now (s .entry))) (now (out .entry)) to (now (out .exit)) r ⌝ }
 {
     if room(out) < to {
-        return MOST + 1;
+        return LOST;
     }
     let mut at = to;
     let mut place = contract::CHILDREN;

@@ -4,6 +4,8 @@
 // No contract can say which bytes are read or written, so `main` is proved only safe and ending. `lines::lower_line` has the contract on the
 // bytes: from the sheet in the buffer to the line in `text`.
 use console::Input;
+use format::MOST;
+use lines::LOWERED_LINE;
 
 fn main() {
     if !console::has_args(0, b"lower_main < SHEET") {
@@ -13,8 +15,8 @@ fn main() {
     let Input::Read(n) = console::read(&mut sheet) else {
         return;
     };
-    let mut out = [0u8; 32768];
-    let mut text = [0u8; 98307];
+    let mut out = [0u8; MOST];
+    let mut text = [0u8; LOWERED_LINE];
     let k = lines::lower_line(&sheet[..n], &mut out, &mut text);
     console::print(&text[..k]);
 }

@@ -13,7 +13,7 @@ use borrow.Author.Tests.{eq-eqb, ne-eqb}
 use Rattle.definitions.specs.Fields.{le}
 use Rattle.definitions.specs.Names.{orThis, lastNamed}
 use Rattle.definitions.specs.Records.{pick, Tree, Trees, tnil, tcons, readRecords, kindIn, gather}
-use Rattle.definitions.proofs.Results.{some-none, last-below}
+use Rattle.definitions.proofs.Results.{by-test, some-none, last-below}
 use Rattle.definitions.proofs.Sheets.Passed.{read-end}
 use Rattle.definitions.proofs.Sheets.Steps.{low}
 use Rattle.sheet.specs.Passed.{recordKind, stopOf, childrenOf}
@@ -127,6 +127,14 @@ coded at position h l =
 pub nothing-found : foundOf 0 ≡ found.Missing
 unfolding foundOf
 nothing-found = refl
+
+-- of two numbers the later serves, unless it is nothing
+pub or-earlier-is : {r : ℕ} (later earlier : ℕ) → r ≡ pick (eqb later 0) earlier later → foundOf r ≡ orEarlier (foundOf later) (foundOf earlier)
+unfolding foundOf
+or-earlier-is {r} later earlier e =
+    by-test (eqb later 0)
+    (λ q. rw q (ap foundOf (e ∙ ap (λ (b : Bool). pick b earlier later) q)))
+    (λ q. let d : r ≡ later = e ∙ ap (λ (b : Bool). pick b earlier later) q in rw (d, q))
 
 -- the same by other names
 pub moved : {s : List ℕ} {kind n position position' at : ℕ} {f f' : Found} → f' ≡ f → position' ≡ position → Walking s kind n f position at → Walking s kind n f' position' at

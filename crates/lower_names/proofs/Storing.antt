@@ -4,12 +4,13 @@ use mathlib.Core.Bool.{Bool, true, false}
 use mathlib.Core.List.{List, [], _∷_}
 use Prim.Native.Nat.{ℕ, _+_, _*_, _/_, _%_, _≤_, _<_}
 use native.Mathlib.Omega.{arith}
-use lib.Dec.{eqb}
+use lib.Dec.{eqb, leb}
 use lib.ListN.{length}
-use borrow.Author.Tests.{eqb-true, ne-eqb}
+use borrow.Author.Tests.{eqb-true, eqb-false, leb-true, leb-false, ne-eqb}
 use Rattle.definitions.specs.Fields.{le}
 use Rattle.definitions.specs.Grammar.{Class, upTo, done, rows}
 use Rattle.definitions.specs.Records.{pick, sizeOf, rowIn}
+use Rattle.definitions.proofs.Results.{by-test}
 use Rattle.definitions.proofs.Contracts.Limits.{TopKind, storage, struct, function}
 use Rattle.definitions.proofs.Sheets.Singles.{after}
 use Rattle.sheet.specs.Passed.{recordKind, stopOf}
@@ -52,19 +53,6 @@ stored i at e =
     let q : at / 10 ≡ i = omega arith in
     at-place (λ z. omega arith) ∙ ap (λ (x : ℕ). found.At x at) q
 
--- of two places the later serves: what was found, as one number, says the number
-abbrev codeOf : Found → ℕ
-codeOf (found.At i p) = p * 65536 + i
-codeOf found.Missing = 0
-
-code-back : (n : ℕ) → codeOf (foundOf n) ≡ n
-unfolding foundOf
-code-back n = go (eqb n 0) refl
-  where
-    go : (x : Bool) → eqb n 0 ≡ x → codeOf (pick x found.Missing (found.At (n % 65536) (n / 65536))) ≡ n
-    go true e = sym (eqb-true n 0 e)
-    go false e = omega arith
-
 -- `count` fields came before `at`, and the last of them that has the name stands at `place`, or there is none. `wanted` is the kind and the name.
 pub record Storing (s : List ℕ) (wanted place at : ℕ) : Type 0 where
   pub name : ℕ
@@ -72,12 +60,6 @@ pub record Storing (s : List ℕ) (wanted place at : ℕ) : Type 0 where
   pub count : ℕ
   pub at-is : at ≡ 8 + 10 * count
   pub walking : Walking s 2 name (storedAt place) count at
-
-pub later-place : {s : List ℕ} {wanted place at r : ℕ} → Storing s wanted place at → foundOf r ≡ orEarlier (foundOf at) (foundOf place) → r ≡ at
-unfolding foundOf
-later-place {s} {wanted} {place} {at} {r} S e =
-    let q : orEarlier (foundOf at) (foundOf place) ≡ foundOf at = rw (ne-eqb at 0 (λ z. omega (arith, S .at-is))) in
-    sym (code-back r) ∙ (ap codeOf (e ∙ q) ∙ code-back at)
 
 -- what `last_storage` ensures
 abbrev Answer : List ℕ → (place n : ℕ) → Type 0
@@ -113,19 +95,38 @@ module _ {s : List ℕ} {wanted place at here : ℕ} (S : Storing s wanted place
       walking = rw (q, fits-ten) W;
     }
 
-    pub wanted-here : here ≡ wanted → Storing s wanted at (at + 10)
+    wanted-here : here ≡ wanted → Storing s wanted at (at + 10)
     wanted-here w =
         let q : le 2 s (at + 6) ≡ S .name = omega (arith, e, head-is s at, is-two, S .wanted-is) in
         let u : storedAt at ≡ found.At (S .count) at = stored (S .count) at (S .at-is) in
         next-stored at (storedAt at) (rw u) (this-kind (S .walking) l (storedAt at) is-two (has-name (S .walking) l is-two q u))
 
-    pub other-here : (here ≡ wanted → ⊥) → Storing s wanted place (at + 10)
+    other-here : (here ≡ wanted → ⊥) → Storing s wanted place (at + 10)
     other-here w =
         let q : (le 2 s (at + 6) ≡ S .name → ⊥) = (λ z. w (omega (arith, e, head-is s at, is-two, S .wanted-is))) in
         next-stored place found.Missing refl (this-kind (S .walking) l found.Missing is-two (has-not (S .walking) l q refl))
+
+    pub stored-on : {r : ℕ} → r ≡ pick (eqb here wanted) at place → Storing s wanted r (at + 10)
+    stored-on q = by-test (eqb here wanted) (λ y. rw (q, y) (wanted-here (eqb-true here wanted y))) (λ y. rw (q, y) (other-here (eqb-false here wanted y)))
 
 -- behind the storage fields
 pub past-stored : {s : List ℕ} {place at here : ℕ} (n : ℕ) (S : Storing s (2 + 65536 * n) place at) → at < length s → here ≡ le 4 s (at + 4) → (here % 65536 ≡ 2 → ⊥) → Answer s place n
 past-stored n S l e k =
     let r = top-range (top-at (S .walking) l .kind) .0 in
     rw (same-name n S) at (stopped (S .walking) l (omega (arith, r, k, kind-is S l e)) .0)
+
+-- the last record that can be a storage field
+pub last-stored : {s : List ℕ} {place at here r : ℕ} (n : ℕ) → Storing s (2 + 65536 * n) place at → at < length s → length s ≤ at + 10
+    → here ≡ le 4 s (at + 4) → r ≡ pick (eqb here (2 + 65536 * n)) at place → Answer s r n
+last-stored {here = here} n S l h e q =
+    by-test (eqb (here % 65536) 2)
+    (λ k. all-stored n (stored-on S l e (eqb-true (here % 65536) 2 k) q) h)
+    (λ k. let other : (here ≡ 2 + 65536 * n → ⊥) = (λ z. eqb-false (here % 65536) 2 k (omega arith)) in rw (q, ne-eqb here (2 + 65536 * n) other) (past-stored n S l e (eqb-false (here % 65536) 2 k)))
+
+-- none fits
+pub none-stored : (s : List ℕ) (n : ℕ) → ContractPassed s → length s < 18 → Answer s 0 n
+none-stored s n C h =
+    let S : Storing s (2 + 65536 * n) 0 8 = begun-storing s n C in
+    by-test (leb (length s) 8)
+    (λ k. all-stored n S (leb-true (length s) 8 k))
+    (λ k. let l = leb-false (length s) 8 k in past-stored n S l refl (λ two. omega (arith, fits-ten S l refl two, top-at (S .walking) l .inside)))

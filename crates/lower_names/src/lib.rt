@@ -44,9 +44,15 @@ pub enum Signature {
     Undefined,
 }
 
-// The names that are held, newest last: a number for each (`held::entry`). Leaving a scope is using the value from before it.
+// How many names may be held: each has a local.
+pub const MOST_HELD: usize = 256;
+
+// A number for each name that is held (`held::entry`), newest last.
+pub type Entries = [u64; MOST_HELD];
+
+// The names that are held. Leaving a scope is using the value from before it.
 pub struct Scopes {
-    pub entries: [u64; 256],
+    pub entries: Entries,
     pub count: usize,
     pub scope: usize,
 }

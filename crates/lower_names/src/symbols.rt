@@ -1,7 +1,9 @@
 // Storage fields, structs and functions by name. The contract's record starts at 0, and its children at 8.
 ghost use mathlib.Core.Path.{_≡_};
 ghost use mathlib.Core.Option.{some};
-ghost use Prim.Native.Nat.{ℕ, _/_, _≤_};
+ghost use Prim.Native.Nat.{ℕ, _/_, _≤_, _<_};
+ghost use lib.Dec.{eqb};
+ghost use Rattle.definitions.specs.Records.{pick};
 ghost use Rattle.definitions.specs.Ir as defs;
 ghost use Rattle.definitions.specs.Lower.{fieldPosition};
 ghost use Rattle.definitions.specs.Grammar.{Class};
@@ -10,7 +12,7 @@ ghost use Rattle.ir.specs.Types.{asType};
 ghost use Rattle.sheet.specs.Passed.{recordKind, stopOf};
 ghost use Rattle.contract_nodes.specs.Ready.{Ready, topClass, treeAt};
 ghost use Rattle.sheet.specs.Passed.{ContractPassed};
-ghost use Rattle.lower_names.specs.Answers.{foundIn, foundOf, storedAt, orEarlier, StandsAt, lastOf, slotOf, slotNamed, positionOf, offsetOf, fieldOffset, signatureOf, signatureNamed};
+ghost use Rattle.lower_names.specs.Answers.{foundIn, foundOf, storedAt, StandsAt, lastOf, slotOf, slotNamed, positionOf, offsetOf, fieldOffset, signatureOf, signatureNamed};
 use crate::Found;
 use crate::Offset;
 use crate::Position;
@@ -27,19 +29,22 @@ use lower_state::LoweringError;
 use reader::read;
 use reader::read_u16;
 
-// What a walk found, as one number: 65,536 times the place, and the position. 0 is nothing: no record of the contract starts at 0.
+// What a walk found is one number: PLACE times the place, and the position. 0 is nothing: no record of the contract starts at 0.
+const PLACE: usize = 65536;
+
+// What such a number says.
 fn decoded(found: usize) -> Found
     ensures { λ r. ⌜ r ≡ foundOf found ⌝ }
 {
     if found == 0 {
         return Found::Missing;
     }
-    Found::At(found % 65536, found / 65536)
+    Found::At(found % PLACE, found / PLACE)
 }
 
 // The later one serves, if there is one.
 fn or_earlier(later: usize, earlier: usize) -> usize
-    ensures { λ r. ⌜ foundOf r ≡ orEarlier (foundOf later) (foundOf earlier) ⌝ }
+    ensures { λ r. ⌜ r ≡ pick (eqb later 0) earlier later ⌝ }
 {
     if later == 0 { earlier } else { later }
 }
@@ -88,7 +93,7 @@ fn last_named(s: &[u8], kind: usize, name: Name) -> Found
         }
         if here == kind {
             let this = if read_u16(s, at + contract::NAME) == name.0 {
-                at * 65536 + position
+                at * PLACE + position
             } else {
                 0
             };
@@ -100,24 +105,50 @@ fn last_named(s: &[u8], kind: usize, name: Name) -> Found
     decoded(found)
 }
 
-// The place of the last storage field that has a name; 0 is nothing. Storage fields come first. Kind and name are read as one number.
+// The place of a field whose kind and name are the ones that are wanted, or what was found before it.
+fn this_or_earlier(here: usize, wanted: usize, at: usize, found: usize) -> usize
+    requires { ⌜ 0 < at ⌝ }
+    ensures { λ r. ⌜ r ≡ pick (eqb here wanted) at found ⌝ }
+{
+    let this = if here == wanted { at } else { 0 };
+    or_earlier(this, found)
+}
+
+// A record's kind and name, read as one number of four bytes: the kind, and BEHIND_KIND times the name.
+const BEHIND_KIND: usize = 65536;
+
+// The place of the last storage field that has a name; 0 is nothing. Storage fields come first. Kind and name are read at once, and two
+// fields a turn: a turn costs more than a comparison.
 fn last_storage(s: &[u8], name: Name) -> usize
     requires { ⌜ ContractPassed (now s) ⌝ }
     ensures { λ r. ⌜ foundIn (now (s .entry)) (storedAt r) ≡ lastOf (now (s .entry)) 2 (name .0) ⌝ }
 {
-    let wanted = kinds::STORAGE + 65536 * (name.0 as usize);
+    let wanted = kinds::STORAGE + BEHIND_KIND * (name.0 as usize);
+    let field = storage_field(contract::CHILDREN);
+    let bytes = field.bytes;
+    if s.len() < contract::CHILDREN + bytes {
+        return 0;
+    }
+    let stop = s.len() - bytes;
     let mut found = 0;
     let mut at = contract::CHILDREN;
-    while at < s.len() {
+    while at < stop {
         let here = read(s, at + KIND, 4);
-        if here % 65536 != kinds::STORAGE {
+        if here % BEHIND_KIND != kinds::STORAGE {
             return found;
         }
-        if here == wanted {
-            found = or_earlier(at, found);
+        found = this_or_earlier(here, wanted, at, found);
+        let next = at + bytes;
+        let here = read(s, next + KIND, 4);
+        if here % BEHIND_KIND != kinds::STORAGE {
+            return found;
         }
-        let field = storage_field(at);
-        at += field.bytes;
+        found = this_or_earlier(here, wanted, next, found);
+        at = next + bytes;
+    }
+    if at < s.len() {
+        let here = read(s, at + KIND, 4);
+        found = this_or_earlier(here, wanted, at, found);
     }
     found
 }

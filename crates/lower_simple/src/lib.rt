@@ -22,11 +22,14 @@ use lower_flow::Stepped;
 use lower_flow::make::init_local;
 use lower_flow::terminate::return_none;
 use lower_flow::terminate::return_value;
+use lower_names::Entries;
 use lower_names::Lookup;
 use lower_names::Slot;
 use lower_names::Top;
 use lower_state::FnCtx;
+use lower_state::Log;
 use lower_state::LoweringError;
+use lower_state::Tables;
 use reader::read;
 
 // Let: the expression, then its local; the name is held from then on.
@@ -34,11 +37,11 @@ pub fn lower_let(
     s: &[u8],
     at: usize,
     depth: usize,
-    entries: &[u64; 256],
+    entries: &Entries,
     top: Top,
     ctx: FnCtx,
-    log: &mut [u8; 32768],
-    tables: &mut [usize; 768],
+    log: &mut Log,
+    tables: &mut Tables,
 ) -> Stepped
     requires { ⌜ Ready Class.statement (now s) at depth × (ContractPassed (now s) × (recordKind (now s) at ≡ 10)) ⌝ }
     requires { ⌜ Sound ctx × (top .count ≤ 256) ⌝ }
@@ -63,10 +66,10 @@ pub fn lower_constrain(
     s: &[u8],
     at: usize,
     depth: usize,
-    entries: &[u64; 256],
+    entries: &Entries,
     top: Top,
     ctx: FnCtx,
-    log: &mut [u8; 32768],
+    log: &mut Log,
 ) -> Stepped
     requires { ⌜ Ready Class.statement (now s) at depth × (ContractPassed (now s) × (recordKind (now s) at ≡ 11)) ⌝ }
     requires { ⌜ Sound ctx × (top .count ≤ 256) ⌝ }
@@ -84,10 +87,10 @@ pub fn lower_assign(
     s: &[u8],
     at: usize,
     depth: usize,
-    entries: &[u64; 256],
+    entries: &Entries,
     top: Top,
     ctx: FnCtx,
-    log: &mut [u8; 32768],
+    log: &mut Log,
 ) -> Stepped
     requires { ⌜ Ready Class.statement (now s) at depth × (ContractPassed (now s) × (recordKind (now s) at ≡ 12)) ⌝ }
     requires { ⌜ Sound ctx × (top .count ≤ 256) ⌝ }
@@ -119,10 +122,10 @@ pub fn lower_storage_write(
     s: &[u8],
     at: usize,
     depth: usize,
-    entries: &[u64; 256],
+    entries: &Entries,
     top: Top,
     ctx: FnCtx,
-    log: &mut [u8; 32768],
+    log: &mut Log,
 ) -> Stepped
     requires { ⌜ Ready Class.statement (now s) at depth × (ContractPassed (now s) × (recordKind (now s) at ≡ 13)) ⌝ }
     requires { ⌜ Sound ctx × (top .count ≤ 256) ⌝ }
@@ -152,11 +155,11 @@ pub fn lower_return(
     s: &[u8],
     at: usize,
     depth: usize,
-    entries: &[u64; 256],
+    entries: &Entries,
     top: Top,
     ctx: FnCtx,
-    log: &mut [u8; 32768],
-    tables: &mut [usize; 768],
+    log: &mut Log,
+    tables: &mut Tables,
 ) -> Stepped
     requires { ⌜ Ready Class.statement (now s) at depth × (ContractPassed (now s) × (recordKind (now s) at ≡ 18)) ⌝ }
     requires { ⌜ Sound ctx × (top .count ≤ 256) ⌝ }
@@ -179,10 +182,10 @@ pub fn lower_emit(
     s: &[u8],
     at: usize,
     depth: usize,
-    entries: &[u64; 256],
+    entries: &Entries,
     top: Top,
     ctx: FnCtx,
-    log: &mut [u8; 32768],
+    log: &mut Log,
 ) -> Stepped
     requires { ⌜ Ready Class.statement (now s) at depth × (ContractPassed (now s) × (recordKind (now s) at ≡ 19)) ⌝ }
     requires { ⌜ Sound ctx × (top .count ≤ 256) ⌝ }
@@ -215,10 +218,10 @@ pub fn lower_expr_stmt(
     s: &[u8],
     at: usize,
     depth: usize,
-    entries: &[u64; 256],
+    entries: &Entries,
     top: Top,
     ctx: FnCtx,
-    log: &mut [u8; 32768],
+    log: &mut Log,
 ) -> Stepped
     requires { ⌜ Ready Class.statement (now s) at depth × (ContractPassed (now s) × (recordKind (now s) at ≡ 20)) ⌝ }
     requires { ⌜ Sound ctx × (top .count ≤ 256) ⌝ }

@@ -1,9 +1,7 @@
 // What lowering keeps of a function under way, and why it refuses.
-//
-// The arrays that are lent along with it: `log`, the records of all blocks in the order of the walk; and `tables`, a number for each local and
-// two for each block: the type of a local (`ir::type_code`), and the places in the log where a block's records start and stop.
 ghost use mathlib.Core.Path.{_≡_};
 ghost use Rattle.lower_state.specs.State.{newCtx, withCounters};
+use format::MOST;
 use ir::BlockId;
 use ir::FunctionId;
 use ir::Name;
@@ -15,12 +13,23 @@ pub const MOST_BLOCKS: u16 = 256;
 
 pub const MOST_LOCALS: u16 = 256;
 
-// Where the tables begin: of the locals' types, and of the places where blocks start and stop.
+// The records of all blocks of a function, in the order of the walk.
+pub type Log = [u8; MOST];
+
+// A number for each local, its type (`ir::type_code`), and two for each block, the places in the log where its records start and stop.
+pub type Tables = [u32; TABLES];
+
+// Where the types, the starts and the stops begin, and how many numbers there are.
 pub const TYPES: usize = 0;
 
 pub const STARTS: usize = 256;
 
 pub const STOPS: usize = 512;
+
+pub const TABLES: usize = 768;
+
+// The place in a log, or in an output, that did not hold all.
+pub const LOST: usize = MOST + 1;
 
 // The errors of lowering (`LoweringError`); the Rust's `UnsupportedNode` is told apart by its text.
 pub enum LoweringError {
@@ -38,7 +47,7 @@ pub enum LoweringError {
     TooManyBlocksOrLocals(FunctionId),
 }
 
-// A function under way (`FnCtx`): the place behind the log's last record, which is over `format::MOST` once a record did not fit; its id, the
+// A function under way (`FnCtx`): the place behind the log's last record, which is `LOST` once a record did not fit; its id, the
 // next value, block and local, the current block, and whether that has its terminator. The widest field stands first, so that no gap is
 // copied with it.
 pub struct FnCtx {

@@ -20,13 +20,16 @@ use lower_flow::MadeBounds;
 use lower_flow::Step;
 use lower_flow::Stepped;
 use lower_flow::terminate::next_arm;
+use lower_names::Entries;
 use lower_names::Scopes;
 use lower_names::Top;
 use lower_names::held::declare;
 use lower_names::held::hold;
 use lower_names::held::inside;
 use lower_state::FnCtx;
+use lower_state::Log;
 use lower_state::LoweringError;
+use lower_state::Tables;
 use reader::read;
 
 // If: the condition, then both arms. An arm that is absent is one without statements.
@@ -34,11 +37,11 @@ fn lower_if(
     s: &[u8],
     at: usize,
     depth: usize,
-    entries: &[u64; 256],
+    entries: &Entries,
     top: Top,
     ctx: FnCtx,
-    log: &mut [u8; 32768],
-    tables: &mut [usize; 768],
+    log: &mut Log,
+    tables: &mut Tables,
 ) -> Stepped
     requires { ⌜ Ready Class.statement (now s) at depth × (ContractPassed (now s) × (recordKind (now s) at ≡ 15)) ⌝ }
     requires { ⌜ Sound ctx × ((top .count ≤ ctx .counters .local) × (top .scope + depth ≤ 40)) ⌝ }
@@ -83,11 +86,11 @@ fn lower_while(
     s: &[u8],
     at: usize,
     depth: usize,
-    entries: &[u64; 256],
+    entries: &Entries,
     top: Top,
     ctx: FnCtx,
-    log: &mut [u8; 32768],
-    tables: &mut [usize; 768],
+    log: &mut Log,
+    tables: &mut Tables,
 ) -> Stepped
     requires { ⌜ Ready Class.statement (now s) at depth × (ContractPassed (now s) × (recordKind (now s) at ≡ 16)) ⌝ }
     requires { ⌜ Sound ctx × ((top .count ≤ ctx .counters .local) × (top .scope + depth ≤ 40)) ⌝ }
@@ -116,11 +119,11 @@ fn lower_for(
     s: &[u8],
     at: usize,
     depth: usize,
-    entries: &[u64; 256],
+    entries: &Entries,
     top: Top,
     ctx: FnCtx,
-    log: &mut [u8; 32768],
-    tables: &mut [usize; 768],
+    log: &mut Log,
+    tables: &mut Tables,
 ) -> Stepped
     requires { ⌜ Ready Class.statement (now s) at depth × (ContractPassed (now s) × (recordKind (now s) at ≡ 17)) ⌝ }
     requires { ⌜ Sound ctx × ((top .count ≤ ctx .counters .local) × (top .scope + depth ≤ 40)) ⌝ }
@@ -163,11 +166,11 @@ fn lower_stmt(
     s: &[u8],
     at: usize,
     depth: usize,
-    entries: &[u64; 256],
+    entries: &Entries,
     top: Top,
     ctx: FnCtx,
-    log: &mut [u8; 32768],
-    tables: &mut [usize; 768],
+    log: &mut Log,
+    tables: &mut Tables,
 ) -> Stepped
     requires { ⌜ Ready Class.statement (now s) at depth × ContractPassed (now s) ⌝ }
     requires { ⌜ Sound ctx × ((top .count ≤ ctx .counters .local) × (top .scope + depth ≤ 40)) ⌝ }
@@ -214,8 +217,8 @@ pub fn lower_stmts(
     depth: usize,
     scopes: Scopes,
     ctx: FnCtx,
-    log: &mut [u8; 32768],
-    tables: &mut [usize; 768],
+    log: &mut Log,
+    tables: &mut Tables,
 ) -> Step
     requires { ⌜ ReadyAll Class.statement (now s) at end depth × ContractPassed (now s) ⌝ }
     requires { ⌜ Sound ctx × ((scopes .count ≤ ctx .counters .local) × (scopes .scope + depth ≤ 40)) ⌝ }

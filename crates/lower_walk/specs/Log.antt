@@ -41,6 +41,10 @@ push i c = counted (nextValue (resultType i) (c .value)) (append (writeTree (ins
 unfoldable pub close : Terminator → Log → Log
 close t c = append (writeTree (termTree t)) c
 
+-- one place stands for all that are over the room
+abbrev pub capped : ℕ → ℕ
+capped at = pick (leb at room) at (suc room)
+
 -- a log in an array: what stands before `at`
 abbrev pub logOf : List ℕ → (value at : ℕ) → Log
-logOf l value at = record { value = value; at = at; bytes = pick (leb at room) (take at l) [] }
+logOf l value at = record { value = value; at = capped at; bytes = pick (leb at room) (take at l) [] }

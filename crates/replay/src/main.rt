@@ -8,7 +8,10 @@ ghost use Prim.Native.Nat.{_≤_};
 ghost use lib.ListN.{length, take};
 ghost use Rattle.console.specs.Input.{Within};
 use console::Input;
+use format::MOST;
 use libc::STDOUT_FILENO;
+use lines::LINE;
+use lines::LOWERED_LINE;
 
 // Reads n bytes to the start of `sheet`, fewer if the input ends. Where `sheet` is too short, it reads nothing.
 fn read_sheet(n: usize, sheet: &mut [u8]) -> Input
@@ -19,6 +22,9 @@ fn read_sheet(n: usize, sheet: &mut [u8]) -> Input
     }
     console::read(&mut sheet[..n])
 }
+
+// The longest sheet of a list: a byte more than a sheet may have, so that refusal 1 occurs.
+const LONGEST: usize = MOST + 1;
 
 // What is asked of the next sheet, and its length. The end of the input asks nothing, which is 0, and so does a read that failed.
 struct Head {
@@ -48,7 +54,7 @@ fn read_head() -> Head {
 }
 
 // Puts the line of the answer into `out`, and gives its length: 0 where something else is asked.
-fn answer_line(asked: u8, sheet: &[u8], out: &mut [u8; 128]) -> usize
+fn answer_line(asked: u8, sheet: &[u8], out: &mut [u8; LINE]) -> usize
     ensures { λ r. ⌜ (r ≤ length (now (out .exit))) × (r ≡ length (take r (now (out .exit)))) ⌝ }
 {
     match asked {
@@ -60,15 +66,15 @@ fn answer_line(asked: u8, sheet: &[u8], out: &mut [u8; 128]) -> usize
 
 // Prints the line of a contract sheet that is lowered.
 fn print_lowered(sheet: &[u8]) -> bool {
-    let mut out = [0u8; 32768];
-    let mut text = [0u8; 98307];
+    let mut out = [0u8; MOST];
+    let mut text = [0u8; LOWERED_LINE];
     let k = lines::lower_line(sheet, &mut out, &mut text);
     io::write_all(STDOUT_FILENO, &text[..k])
 }
 
 // Prints the line of the answer to anything else that is asked.
 fn print_answer(asked: u8, sheet: &[u8]) -> bool {
-    let mut text = [0u8; 128];
+    let mut text = [0u8; LINE];
     let k = answer_line(asked, sheet, &mut text);
     io::write_all(STDOUT_FILENO, &text[..k])
 }
@@ -84,7 +90,7 @@ fn print_line(asked: u8, sheet: &[u8]) -> bool {
 fn replay_one() -> bool {
     let head = read_head();
     let n = head.length;
-    if head.asked == 0 || 32769 < n {
+    if head.asked == 0 || LONGEST < n {
         return false;
     }
     let mut sheet = io::large_buffer();

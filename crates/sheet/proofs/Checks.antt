@@ -10,9 +10,7 @@ use Rattle.definitions.specs.Grammar.{Pattern}
 use Rattle.definitions.specs.Records.{pick, Form, Good, Bad, andThen, mayEnd, Next, nothing, starts, startIf, startAt, pastAll, checkRest, recordsFrom, checkRecords}
 use Rattle.definitions.proofs.Sheets.Passed.{Ends, all-past, bound-enough}
 use Rattle.sheet.specs.Codes.{placeOf, fieldsIn, patternOf, coded, Leaves, RowIs, kindAt, classIn, fixedIn, childrenIn}
-use Rattle.sheet.specs.Forms.{formOf}
-use Rattle.sheet.specs.declared.Form as declared
-use Rattle.sheet.specs.declared.Form.the-variants as answer
+use Rattle.sheet.specs.Forms.{faultOf}
 use Rattle.sheet.proofs.Heads.{Begun, not-allowed, begun}
 
 module _ (s : List ℕ) (at end : ℕ) (q : Pattern) where
@@ -53,19 +51,17 @@ module _ {s : List ℕ} {at end q place left : ℕ} (g : Going s at end q place 
         let w : checkRecords s place end (patternOf left) ≡ pick (mayEnd (patternOf left)) Good (Bad place) = rw z (step-end s place (patternOf left)) in
         rw (g .same, w, ← e, y)
 
-    pub over-good : m ≡ true → formOf answer.Good ≡ checkRecords s at end (patternOf q)
-    unfolding formOf
+    pub over-good : m ≡ true → faultOf 0 ≡ checkRecords s at end (patternOf q)
+    unfolding faultOf
     over-good y = sym (over y)
 
-    pub over-bad : m ≡ false → formOf (answer.Bad place) ≡ checkRecords s at end (patternOf q)
-    unfolding formOf
-    over-bad y = sym (over y)
+    pub over-bad : {r : Form} → r ≡ Bad place → m ≡ false → r ≡ checkRecords s at end (patternOf q)
+    over-bad i y = i ∙ sym (over y)
 
   -- a record is to come: k is its kind, x its row, and n what it leaves of the pattern
   module _ (h : place < end) {k x n : ℕ} (ek : k ≡ kindAt s place end) (r : RowIs k x) (v : Leaves left (classIn x) n) where
-    pub not-there : n ≡ 16 → formOf (answer.Bad place) ≡ checkRecords s at end (patternOf q)
-    unfolding formOf
-    not-there e = rw (g .same) (step-no s place end (patternOf left) h (not-allowed s place end left ek r v e))
+    pub not-there : {r : Form} → r ≡ Bad place → n ≡ 16 → r ≡ checkRecords s at end (patternOf q)
+    not-there i e = rw (i, g .same) (step-no s place end (patternOf left) h (not-allowed s place end left ek r v e))
 
     pub there : (n ≡ 16 → ⊥) → Begun s place end left x n
     there a = begun s place end left ek r v a (g .high)
@@ -85,9 +81,9 @@ module _ {s : List ℕ} {at end q place left x n l : ℕ} (g : Going s at end q 
   starting : startAt s place end (patternOf left) ≡ startIf (placeOf b) (place + l) (patternOf (childrenIn x)) (Next.left (patternOf n))
   starting = rw (eb, el) (d .is)
 
-  pub not-valid : b ≡ 0 → formOf (answer.Bad place) ≡ checkRecords s at end (patternOf q)
-  unfolding formOf startIf placeOf
-  not-valid z = rw (g .same) (step-no s place end (patternOf left) h (rw (starting, z)))
+  pub not-valid : {r : Form} → r ≡ Bad place → b ≡ 0 → r ≡ checkRecords s at end (patternOf q)
+  unfolding startIf placeOf
+  not-valid i z = rw (i, g .same) (step-no s place end (patternOf left) h (rw (starting, z)))
 
   pub enters : (b ≡ 0 → ⊥) → Entered s at end q place x n l b
   unfolding startIf placeOf
@@ -109,19 +105,19 @@ module _ {s : List ℕ} {at end q place x n l b : ℕ} (d : Entered s at end q p
   unfolding andThen
   goes-on e = let m : at ≤ place = d .low in record { low = omega arith; high = d .parent; ok = d .rest; same = rw (d .is, e) }
 
-  ends-bad : {y : ℕ} → checkRecords s b (place + l) (patternOf (childrenIn x)) ≡ Bad y → formOf (answer.Bad y) ≡ checkRecords s at end (patternOf q)
-  unfolding formOf andThen
+  ends-bad : {y : ℕ} → checkRecords s b (place + l) (patternOf (childrenIn x)) ≡ Bad y → Bad y ≡ checkRecords s at end (patternOf q)
+  unfolding andThen
   ends-bad e = rw (d .is, e)
 
   -- its children are checked
-  module _ {f : declared.Form} (ef : formOf f ≡ checkRecords s b (place + l) (patternOf (childrenIn x))) where
-    pub children-good : f ≡ answer.Good → Going s at end q (place + l) n
-    unfolding formOf
-    children-good e = goes-on (sym ef ∙ ap formOf e)
+  module _ (f : ℕ) (ef : faultOf f ≡ checkRecords s b (place + l) (patternOf (childrenIn x))) where
+    pub children-good : f ≡ 0 → Going s at end q (place + l) n
+    unfolding faultOf
+    children-good e = goes-on (sym ef ∙ ap faultOf e)
 
-    pub children-bad : {y : ℕ} → f ≡ answer.Bad y → formOf (answer.Bad y) ≡ checkRecords s at end (patternOf q)
-    unfolding formOf
-    children-bad e = ends-bad (sym ef ∙ ap formOf e)
+    pub children-bad : (f ≡ 0 → ⊥) → faultOf f ≡ checkRecords s at end (patternOf q)
+    unfolding faultOf
+    children-bad h = let i : faultOf f ≡ Bad (f - 1) = rw (ne-eqb f 0 h) in i ∙ ends-bad (sym ef ∙ i)
 
   -- no byte is left for children
   module _ (i : place + l ≤ b) {m : Bool} (e : m ≡ mayEnd (patternOf (childrenIn x))) where
@@ -131,5 +127,5 @@ module _ {s : List ℕ} {at end q place x n l b : ℕ} (d : Entered s at end q p
     pub none-good : m ≡ true → Going s at end q (place + l) n
     none-good y = goes-on (childless y)
 
-    pub none-bad : m ≡ false → formOf (answer.Bad b) ≡ checkRecords s at end (patternOf q)
-    none-bad y = ends-bad (childless y)
+    pub none-bad : {r : Form} → r ≡ Bad b → m ≡ false → r ≡ checkRecords s at end (patternOf q)
+    none-bad i y = i ∙ ends-bad (childless y)

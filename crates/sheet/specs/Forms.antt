@@ -1,5 +1,7 @@
 -- The answers of the code, in the words of the definitions. Assumes nothing: these are definitions.
+use Prim.Native.Nat.{ℕ, _-_}
 use mathlib.Core.List.{[], _∷_}
+use lib.Dec.{eqb}
 use Rattle.definitions.specs.Answers.{Refusal, refusal}
 use Rattle.definitions.specs.Records as records
 use Rattle.definitions.specs.Result.{Result, err, ok, Done}
@@ -13,6 +15,10 @@ use Rattle.sheet.specs.declared.ContractCheck.the-variants.{Passed, TooL
 unfoldable pub formOf : Form → records.Form
 formOf Good = records.Good
 formOf (Bad p) = records.Bad p
+
+-- a fault as one number: 0 is none, else its place and one
+unfoldable pub faultOf : ℕ → records.Form
+faultOf n = records.pick (eqb n 0) records.Good (records.Bad (n - 1))
 
 unfoldable pub limitsOf : LimitCheck → records.Form
 limitsOf Within = records.Good

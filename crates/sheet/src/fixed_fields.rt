@@ -8,6 +8,7 @@ ghost use Rattle.definitions.specs.Fields.{le};
 ghost use Rattle.definitions.specs.Grammar.{upTo, irType, single, counted, listed};
 ghost use Rattle.definitions.specs.Records.{pick, sizeOf, okType, okItem, okItems, past, pastAll};
 ghost use Rattle.sheet.specs.Codes.{placeOf, fieldOf, fieldsOf, itemForm, beforeOwn, withOrigin};
+use crate::tables::DIGIT;
 use format::HIGHEST_ID;
 use format::ID;
 use format::TYPE;
@@ -193,11 +194,11 @@ fn past_fields(s: &[u8], at: usize, stop: usize, code: usize) -> usize
     let mut place = at;
     let mut left = code;
     while left != 0 {
-        place = past_field(s, place, stop, left % 16);
+        place = past_field(s, place, stop, left % DIGIT);
         if place == 0 {
             return 0;
         }
-        left = left / 16;
+        left = left / DIGIT;
     }
     place
 }

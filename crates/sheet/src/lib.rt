@@ -37,14 +37,14 @@ pub enum ContractCheck {
 pub fn contract_form(s: &[u8]) -> Form
     ensures { λ r. ⌜ formOf r ≡ refusal3 (now (s .entry)) ⌝ }
 {
-    records::records(s, 0, s.len(), tables::ONE_CONTRACT)
+    records::form(records::records(s, 0, s.len(), tables::ONE_CONTRACT))
 }
 
 // Refusal 40: one program and nothing after it.
 pub fn program_form(s: &[u8]) -> Form
     ensures { λ r. ⌜ formOf r ≡ refusal40 (now (s .entry)) ⌝ }
 {
-    records::records(s, 0, s.len(), tables::ONE_PROGRAM)
+    records::form(records::records(s, 0, s.len(), tables::ONE_PROGRAM))
 }
 
 // Refusal 4, of a contract sheet whose form is good.

@@ -6,6 +6,9 @@ ghost use Rattle.definitions.specs.Fields.{le};
 ghost use Rattle.definitions.specs.Records.{readRecords};
 ghost use Rattle.definitions.specs.ContractSheet.{countTrees};
 ghost use Rattle.sheet.specs.Passed.{Passed, Standing, bodyOf};
+use crate::tables::CHILDREN;
+use crate::tables::DIGIT;
+use crate::tables::FIXED;
 use crate::tables::row_of;
 use format::HEAD;
 use format::TYPE;
@@ -27,10 +30,10 @@ pub fn body_of(s: &[u8], at: usize, stop: usize, kind: usize) -> usize
     ensures { λ r. ⌜ r ≡ bodyOf (now (s .entry)) at ⌝ }
 {
     let row = row_of(kind);
-    if row / 0x1000000 == 0 {
+    if row / CHILDREN == 0 {
         return stop;
     }
-    match row / 16 % 0x100000 {
+    match row / DIGIT % FIXED {
         0x1 => at + contract::AFTER_NAME, // a name or an id
         0x7 => at + contract::AFTER_NAME, // an operator
         0x9621 => past_list(s, at + contract::PARAM_COUNT, contract::PARAM), // function: n, return type, is_pub, parameters

@@ -1,13 +1,17 @@
 // Refusals 3 and 40: the lowest place at which a record should start, or surplus begins, and none starts.
 ghost use mathlib.Core.Path.{_≡_};
 ghost use mathlib.Core.Bool.{true};
-ghost use Prim.Native.Nat.{_≤_};
+ghost use Prim.Native.Nat.{_≤_, _<_};
 ghost use lib.ListN.{length};
-ghost use Rattle.definitions.specs.Records.{mayEnd, checkRecords};
+ghost use Rattle.definitions.specs.Records.{Bad, mayEnd, checkRecords};
 ghost use Rattle.sheet.specs.Codes.{patternOf, coded, Leaves, kindAt};
-ghost use Rattle.sheet.specs.Forms.{formOf};
+ghost use Rattle.sheet.specs.Forms.{formOf, faultOf};
 use crate::Form;
 use crate::fixed_fields::past_fixed;
+use crate::tables::CHILD;
+use crate::tables::CHILDREN;
+use crate::tables::DIGIT;
+use crate::tables::FIXED;
 use crate::tables::row_of;
 use format::HEAD;
 use format::KIND;
@@ -47,18 +51,18 @@ fn after(pattern: usize, class: usize) -> usize
 {
     let mut left = pattern;
     while left != 0 {
-        let child = left % 256;
-        let often = child / 16;
-        if child % 16 == class {
+        let child = left % CHILD;
+        let often = child / DIGIT;
+        if child % DIGIT == class {
             if often == MANY {
                 return left;
             }
-            return left / 256;
+            return left / CHILD;
         }
         if often == ONE {
             return REFUSED;
         }
-        left = left / 256;
+        left = left / CHILD;
     }
     REFUSED
 }
@@ -70,50 +74,64 @@ fn may_end(pattern: usize) -> bool
 {
     let mut left = pattern;
     while left != 0 {
-        if left % 256 / 16 == ONE {
+        if left % CHILD / DIGIT == ONE {
             return false;
         }
-        left = left / 256;
+        left = left / CHILD;
     }
     true
 }
 
+// A fault as a number, and none as 0: a level of `records` then takes less stack than one that gives a `Form`.
+fn fault_at(place: usize) -> usize
+    requires { ⌜ place < 18446744073709551615 ⌝ }
+    ensures { λ r. ⌜ faultOf r ≡ Bad place ⌝ }
+{
+    place + 1
+}
+
+// What such a number says.
+pub(crate) fn form(fault: usize) -> Form
+    ensures { λ r. ⌜ formOf r ≡ faultOf fault ⌝ }
+{
+    if fault == 0 {
+        return Form::Good;
+    }
+    Form::Bad(fault - 1)
+}
+
 // The records from `at` to `end` follow a pattern, each with its children: first those, then what stands after it. So the first
 // fault is the lowest. A record takes 6 bytes or more, so the bytes left fall with each call, to any depth.
-pub(crate) fn records(s: &[u8], at: usize, end: usize, pattern: usize) -> Form
+pub(crate) fn records(s: &[u8], at: usize, end: usize, pattern: usize) -> usize
     requires { ⌜ (at ≤ end) × ((end ≤ length (now s)) × (coded pattern ≡ true)) ⌝ }
-    ensures { λ r. ⌜ formOf r ≡ checkRecords (now (s .entry)) at end (patternOf pattern) ⌝ }
+    ensures { λ r. ⌜ faultOf r ≡ checkRecords (now (s .entry)) at end (patternOf pattern) ⌝ }
 {
     let mut place = at;
     let mut left = pattern;
     while place < end {
         let row = row_of(kind_at(s, place, end));
-        let class = row % 16;
-        let fixed = row / 16 % 0x100000;
-        let children = row / 0x1000000;
+        let class = row % DIGIT;
+        let fixed = row / DIGIT % FIXED;
+        let children = row / CHILDREN;
         let next = after(left, class);
         if next == REFUSED {
-            return Form::Bad(place); // no record that may stand here
+            return fault_at(place); // no record that may stand here
         }
         let stop = place + read(s, place, 4);
         let body = past_fixed(s, place + HEAD, stop, class, fixed);
         if body == 0 {
-            return Form::Bad(place); // a fault in its own fields
+            return fault_at(place); // a fault in its own fields
         }
         if body < stop {
-            let inner = records(s, body, stop, children);
-            if let Form::Bad(fault) = inner {
-                return Form::Bad(fault);
+            let fault = records(s, body, stop, children);
+            if fault != 0 {
+                return fault;
             }
         } else if !may_end(children) {
-            return Form::Bad(body); // a child is missing
+            return fault_at(body); // a child is missing
         }
         place = stop;
         left = next;
     }
-    if may_end(left) {
-        Form::Good
-    } else {
-        Form::Bad(place)
-    }
+    if may_end(left) { 0 } else { fault_at(place) }
 }

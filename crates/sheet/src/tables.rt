@@ -2,7 +2,7 @@
 //
 // 1 digit, the class: 1 contract, 2 storage, 3 struct, 4 function, 5 block, 6 field of a struct literal, 7 statement,
 //   8 expression; 9 program, a function, b function's name, c basic block, d instruction, e terminator.
-// 5 digits, the fixed fields, the first field rightmost; of an instruction or terminator those after its origin (`entries`):
+// 5 digits, the fixed fields, the first field rightmost; of an instruction or terminator those after its origin (`fixed_fields::before_own`):
 //   1 a name or an id        5 four bytes          9 a count, then (name, type name) so often
 //   2 an id, 65,535: absent  6 0 or 1              a a count, then (value, type) so often
 //   3 a type                 7 operator, 0 to 9    b a count, then a type so often
@@ -10,6 +10,15 @@
 // 2 digits for each child, the first rightmost: 1 one, 2 perhaps one, 3 any number; then its class.
 ghost use Rattle.sheet.specs.Codes.{RowIs};
 use format::kinds;
+
+// One more than a digit, the two digits of a child, and the five of the fixed fields hold; and what the children are multiplied by.
+pub(crate) const DIGIT: usize = 0x10;
+
+pub(crate) const CHILD: usize = 0x100;
+
+pub(crate) const FIXED: usize = 0x100000;
+
+pub(crate) const CHILDREN: usize = 0x1000000;
 
 // The patterns of the sheets: one contract, one program.
 pub(crate) const ONE_CONTRACT: usize = 0x11;

@@ -3,6 +3,7 @@
 // No contract can say which bytes are read or written, so `main` is proved only safe and ending. `lines::verify_line` has the
 // contract on the bytes: from the sheet in the buffer to the line in `text`.
 use console::Input;
+use lines::LINE;
 
 fn main() {
     if !console::has_args(0, b"verify_main < SHEET") {
@@ -12,7 +13,7 @@ fn main() {
     let Input::Read(n) = console::read(&mut sheet) else {
         return;
     };
-    let mut text = [0u8; 128];
+    let mut text = [0u8; LINE];
     let k = lines::verify_line(&sheet[..n], &mut text);
     console::print(&text[..k]);
 }

@@ -2,7 +2,7 @@
 
 use std::hint::black_box;
 
-use super::{add, call, Maker, Row};
+use super::{add, call, Maker, Operation, Row};
 use crate::archive;
 use crate::ast::{BinOp, Contract, Expr, Function, Stmt};
 use crate::build::*;
@@ -296,7 +296,8 @@ fn row(label: String, contract: &Contract) -> Row {
     let (first, second, contract) = (sheet.clone(), sheet.clone(), contract.clone());
     Row {
         label,
-        bytes: sheet.len(),
+        sheet,
+        operation: Operation::Lower,
         gives,
         calls: vec![
             call(move || archive::lower(black_box(&first), black_box(&mut out))),

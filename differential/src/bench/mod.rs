@@ -2,6 +2,7 @@
 //! side by side.
 
 mod lowering;
+pub mod measure;
 mod verifying;
 
 use std::hint::black_box;
@@ -9,11 +10,20 @@ use std::hint::black_box;
 use crate::ast::{BinOp, Expr};
 use crate::build::binary;
 
+/// The archive's call that a row measures.
+#[derive(Debug, Clone, Copy, PartialEq, Eq)]
+pub enum Operation {
+    Lower,
+    Verify,
+    Form,
+}
+
 /// One line of a table.
 pub struct Row {
     pub label: String,
-    /// The length of the sheet.
-    pub bytes: usize,
+    /// What the calls get.
+    pub sheet: Vec<u8>,
+    pub operation: Operation,
     /// The length of the finished sheet, or the number of the refusal.
     pub gives: String,
     /// The archive's call, the Rust's, and the Rust's with more or with less.

@@ -2,7 +2,7 @@
 
 use std::hint::black_box;
 
-use super::{add, call, Maker, Row};
+use super::{add, call, Maker, Operation, Row};
 use crate::archive;
 use crate::ast::{BinOp, Contract, Function, Stmt};
 use crate::build::*;
@@ -88,7 +88,8 @@ fn verifying(label: String, sheet: Vec<u8>) -> Row {
     let (first, second) = (sheet.clone(), sheet.clone());
     Row {
         label,
-        bytes: sheet.len(),
+        sheet,
+        operation: Operation::Verify,
         gives: "0".into(),
         calls: vec![
             call(move || archive::verify(black_box(&first))),
@@ -107,12 +108,14 @@ fn lower_by_rust(contract: &Contract) -> IrProgram {
 fn form(label: String, contract: Contract) -> Row {
     let sheet = contract_write::contract(&contract);
     assert_eq!(archive::contract_form(&sheet), [0; 6], "{label} is good");
+    let first = sheet.clone();
     Row {
         label,
-        bytes: sheet.len(),
+        sheet,
+        operation: Operation::Form,
         gives: "0".into(),
         calls: vec![
-            call(move || archive::contract_form(black_box(&sheet))),
+            call(move || archive::contract_form(black_box(&first))),
             call(move || lower_by_rust(black_box(&contract))),
         ],
     }

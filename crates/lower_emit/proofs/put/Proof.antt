@@ -18,7 +18,6 @@ put-spec =
     tie.close
     (tie.spec
     (λ c. search needs)
-    (λ c. search needs)
     returns
     (λ c κs. search needs)
     (λ c. search needs)

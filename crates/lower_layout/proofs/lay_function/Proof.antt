@@ -9,7 +9,6 @@ pub lay-function-spec : {M : Type 1} → statement M
 lay-function-spec =
     tie.close
     (tie.spec
-    (λ c. search needs)
     (λ c. (λ h. absurd (omega arith), λ h. (refl, refl)))
     (λ c κs. let p = c .before .before .before .before .before .before .before .pre in record { ready = p .0 .1 .0; sound = p .0 .1 .1; fits = omega arith; log-long = search needs; tables-long = search needs; within = p .1 (omega arith) })
     (λ c. search needs)

@@ -44,6 +44,7 @@ lay-locals-spec =
     (λ c. search needs)
     (λ c. search needs)
     (λ c. search needs)
+    (λ c. omega (arith, c .shared-slice-known2 .given (0 + c .before .before .loop .i)))
     (λ c κs. search needs)
     (λ c κs. search needs)
     (λ c κs. search needs)

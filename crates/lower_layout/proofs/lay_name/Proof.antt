@@ -25,9 +25,7 @@ lay-name-spec =
     (tie.spec
     (λ c κs. search needs)
     (λ c. search needs)
-    (λ c. search needs)
     (λ c. laid-none _ _ _ (omega arith))
-    (λ c. search needs)
     (λ c. search needs)
     (λ c. let a = c .before .before .before .before .before .args in laid-none _ _ _ (omega (arith, name-length (a .name .0) (a .id .0))))
     (λ c κs. search needs)

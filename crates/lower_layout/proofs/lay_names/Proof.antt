@@ -39,7 +39,6 @@ lay-names-spec =
     μ-loop
     (λ c κs. search needs)
     (λ c. search needs)
-    (λ c. search needs)
     (λ c. laid-none _ _ _ (omega arith))
     (λ c. start (c .before .before .before .before .before .pre) (omega arith))
     (λ c. search needs)

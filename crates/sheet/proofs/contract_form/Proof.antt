@@ -1,5 +1,5 @@
 -- `sheet::contract_form`: the pattern of the sheet is one contract. Assumes nothing.
-use mathlib.Core.Path.{refl}
+use mathlib.Core.Path.{refl, _∙_}
 use borrow.Author.Needs.{needs}
 use Rattle.definitions.specs.ContractSheet.{refusal3}
 use Rattle.sheet.specs.Codes.{classes, classOf, child, patternFrom, classCoded, codedFrom}
@@ -12,7 +12,7 @@ records-requires c κs = (search needs, (search needs, refl))
 
 returns : tie.Need-returns
 unfolding refusal3 patternFrom child classOf classes
-returns c = c .records .ensures
+returns c = c .form .ensures ∙ c .before .records .ensures
 
 pub contract-form-spec : {M : Type 1} → statement M
-contract-form-spec = tie.close (tie.spec records-requires returns)
+contract-form-spec = tie.close (tie.spec records-requires (λ c κs. search needs) returns)

@@ -1,5 +1,5 @@
 -- `sheet::program_form`: the pattern of the sheet is one program. Assumes nothing.
-use mathlib.Core.Path.{refl}
+use mathlib.Core.Path.{refl, _∙_}
 use borrow.Author.Needs.{needs}
 use Rattle.definitions.specs.ProgramSheet.{refusal40}
 use Rattle.sheet.specs.Codes.{classes, classOf, child, patternFrom, classCoded, codedFrom}
@@ -12,7 +12,7 @@ records-requires c κs = (search needs, (search needs, refl))
 
 returns : tie.Need-returns
 unfolding refusal40 patternFrom child classOf classes
-returns c = c .records .ensures
+returns c = c .form .ensures ∙ c .before .records .ensures
 
 pub program-form-spec : {M : Type 1} → statement M
-program-form-spec = tie.close (tie.spec records-requires returns)
+program-form-spec = tie.close (tie.spec records-requires (λ c κs. search needs) returns)

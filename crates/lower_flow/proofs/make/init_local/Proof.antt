@@ -16,6 +16,10 @@ returns c =
     let full : a .ctx .counters .local ≡ 256 = omega (arith, s .pre .locals) in
     record { is = no-local (a .ty) (a .value .0) (a .log .now) (a .tables .now) (a .ctx) long full; grown = tt }
 
+-- a type's code has four bytes
+small : tie.Need-cast-tables
+small c = let q = c .type-code .ensures in omega (arith, q .0, q .2, q .3)
+
 -- there is room where the type is stored
 room : tie.Need-element-write-tables
 room c = rw (c .before .before .before .next-local .ensures) (omega arith)
@@ -51,6 +55,7 @@ init-local-spec =
     (λ c. search needs)
     (λ c. search needs)
     (λ c κs. search needs)
+    small
     (λ c. search needs)
     room
     (λ c κs. search needs)

@@ -1,6 +1,6 @@
 -- `lower_names::held::find`: what is left below i gives what all entries give. Assumes nothing.
 use mathlib.Core.Path.{_≡_, refl, _∙_}
-use Prim.Native.Nat.{_≤_}
+use Prim.Native.Nat.{_-_, _≤_}
 use native.Mathlib.Omega.{arith}
 use borrow.Author.Needs.{needs}
 use Rattle.definitions.specs.Lower.{inScope}
@@ -17,43 +17,44 @@ Inv-loop entries wanted i₀ i =
 abbrev μ-loop : tie.MeasureT-loop
 μ-loop entries wanted i₀ i = i
 
-cast-wanted : tie.Need-cast-wanted Inv-loop μ-loop
-cast-wanted c = search needs
-
-loop-holds : tie.Need-loop-holds Inv-loop μ-loop
-loop-holds c = (omega arith, refl)
-
-sub-i : tie.Need-sub-i Inv-loop μ-loop
-sub-i c = search needs
-
-mul-e : tie.Need-mul-e Inv-loop μ-loop
-mul-e c = search needs
-
-element-copy-out-e : tie.Need-element-copy-out-e Inv-loop μ-loop
-element-copy-out-e c = search needs
-
-lookup-of-requires : tie.Need-lookup-of-requires Inv-loop μ-loop
-lookup-of-requires c κs = search needs
-
 returns : tie.Need-returns Inv-loop μ-loop
 returns c =
     let b = c .before .before .before .before in
     let a = b .before .before .args in
-    c .lookup-of .ensures ∙ (hit (a .entries .now) (a .name .0) (b .loop .i) (c .before .before .before .loop-test .taken) (c .before .if1 .taken) ∙ b .loop .inv .1)
-
-loop-less : tie.Need-loop-less Inv-loop μ-loop
-loop-less c = search needs
-
-loop-again : tie.Need-loop-again Inv-loop μ-loop
-loop-again c =
-    let b = c .before .before .before in
-    let a = b .before .before .args in
-    (omega arith, miss (a .entries .now) (a .name .0) (b .loop .i) (c .before .before .loop-test .taken) (c .if1 .left) ∙ b .loop .inv .1)
+    c .lookup-of .ensures ∙ (hit (a .entries .now) (a .name .0) (b .loop .i) (omega arith) (c .before .if1 .taken) ∙ b .loop .inv .1)
 
 returns-2 : tie.Need-returns-2 Inv-loop μ-loop
 returns-2 c =
-    let a = c .before .before .before .args in
-    none-left (a .entries .now) (a .name .0) (c .before .loop .i) (c .loop-test .left) ∙ c .before .loop .inv .1
+    let b = c .before .before .before .before .before .before in
+    let a = b .before .before .args in
+    let i = b .loop .i in
+    c .lookup-of2 .ensures ∙ (hit (a .entries .now) (a .name .0) (i - 1) (omega arith) (c .before .if2 .taken) ∙ (miss (a .entries .now) (a .name .0) i (omega arith) (c .before .before .before .if1 .left) ∙ b .loop .inv .1))
+
+loop-again : tie.Need-loop-again Inv-loop μ-loop
+loop-again c =
+    let b = c .before .before .before .before .before in
+    let a = b .before .before .args in
+    let i = b .loop .i in
+    (omega arith, miss (a .entries .now) (a .name .0) (i - 1) (omega arith) (c .if2 .left) ∙ (miss (a .entries .now) (a .name .0) i (omega arith) (c .before .before .if1 .left) ∙ b .loop .inv .1))
+
+returns-3 : tie.Need-returns-3 Inv-loop μ-loop
+returns-3 c =
+    let b = c .before .before .before .before .before in
+    let a = b .before .before .args in
+    c .lookup-of3 .ensures ∙ (hit (a .entries .now) (a .name .0) (b .loop .i) (omega arith) (c .before .if4 .taken) ∙ b .loop .inv .1)
+
+returns-4 : tie.Need-returns-4 Inv-loop μ-loop
+returns-4 c =
+    let b = c .before .before .before .before in
+    let a = b .before .before .args in
+    let i = b .loop .i in
+    none-left (a .entries .now) (a .name .0) (i - 1) (omega arith) ∙ (miss (a .entries .now) (a .name .0) i (omega arith) (c .if4 .left) ∙ b .loop .inv .1)
+
+returns-5 : tie.Need-returns-5 Inv-loop μ-loop
+returns-5 c =
+    let b = c .before .before in
+    let a = b .before .before .args in
+    none-left (a .entries .now) (a .name .0) (b .loop .i) (omega arith) ∙ b .loop .inv .1
 
 pub find-spec : {M : Type 1} → statement M
 find-spec =
@@ -61,13 +62,26 @@ find-spec =
     (tie.spec
     Inv-loop
     μ-loop
-    cast-wanted
-    loop-holds
-    sub-i
-    mul-e
-    element-copy-out-e
-    lookup-of-requires
+    (λ c. search needs)
+    (λ c. (omega arith, refl))
+    (λ c. search needs)
+    (λ c. search needs)
+    (λ c. search needs)
+    (λ c κs. search needs)
     returns
-    loop-less
+    (λ c. search needs)
+    (λ c. search needs)
+    (λ c. search needs)
+    (λ c. search needs)
+    (λ c κs. search needs)
+    returns-2
+    (λ c. search needs)
+    (λ c. search needs)
     loop-again
-    returns-2)
+    (λ c. search needs)
+    (λ c. search needs)
+    (λ c. search needs)
+    (λ c κs. search needs)
+    returns-3
+    returns-4
+    returns-5)

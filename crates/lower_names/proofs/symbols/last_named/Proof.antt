@@ -6,7 +6,7 @@ use native.Mathlib.Omega.{arith}
 use borrow.Author.Needs.{needs}
 use lib.ListN.{length}
 use Rattle.lower_names.specs.Answers.{foundOf}
-use Rattle.lower_names.proofs.Lasts.{Walking, begun, walked, stopped, top-at, other-kind, has-name, has-not, this-kind, coded, nothing-found, moved}
+use Rattle.lower_names.proofs.Lasts.{Walking, begun, walked, stopped, top-at, other-kind, has-name, has-not, this-kind, coded, nothing-found, or-earlier-is, moved}
 use Rattle.lower_names.proofs.symbols.last_named.Statement.{statement}
 use Rattle.lower_names.proofs.symbols.last_named.Tie as tie
 
@@ -82,7 +82,7 @@ loop-again c =
     (λ w.
     let e = sym r ∙ w .0 .taken in
     let t = ⊎-elim (λ v. has-name W l e (sym (w .1 .ensures) ∙ v .0 .taken) (ap foundOf (v .1) ∙ coded (b .loop .at) (b .loop .position) (omega (arith, W .low)) (omega (arith, W .low, C, l)))) (λ v. has-not W l (λ z. v .0 .left (w .1 .ensures ∙ z)) (ap foundOf (v .1) ∙ nothing-found)) (w .3 .came) in
-    moved (ap foundOf (w .5) ∙ w .4 .ensures) (w .6) (this-kind W l (foundOf (w .3 .this)) e t))
+    moved (ap foundOf (w .5) ∙ or-earlier-is (w .3 .this) (b .loop .found) (w .4 .ensures)) (w .6) (this-kind W l (foundOf (w .3 .this)) e t))
     (λ w. moved (ap foundOf (w .1)) (w .2) (other-kind W l (λ z. w .0 .left (r ∙ z))))
     (c .before .if2 .came))
 

@@ -1,16 +1,13 @@
--- `lower_names::symbols::or_earlier`: nothing gives way. Assumes nothing.
+-- `lower_names::symbols::or_earlier`: the test of the promise is the code's. Assumes nothing.
 use mathlib.Core.Path.{refl}
 use borrow.Author.Tests.{eq-eqb, ne-eqb}
-use Rattle.lower_names.specs.Answers.{foundOf}
 use Rattle.lower_names.proofs.symbols.or_earlier.Statement.{statement}
 use Rattle.lower_names.proofs.symbols.or_earlier.Tie as tie
 
 returns : tie.Need-returns
-unfolding foundOf
 returns c = rw (eq-eqb _ 0 (c .if1 .taken)) refl
 
 returns-2 : tie.Need-returns-2
-unfolding foundOf
 returns-2 c = rw (ne-eqb _ 0 (c .if1 .left)) refl
 
 pub or-earlier-spec : {M : Type 1} → statement M

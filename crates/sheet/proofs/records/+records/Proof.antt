@@ -11,6 +11,7 @@ use Rattle.sheet.proofs.Checks.{Going, over-good, over-bad, not-there, 
 use Rattle.sheet.proofs.Heads.{class-small, Begun}
 use Rattle.sheet.proofs.fixed_fields.past_fixed.Reads as past-fixed
 use Rattle.sheet.proofs.records.after.Reads as after
+use Rattle.sheet.proofs.records.fault_at.Reads as fault-at
 use Rattle.sheet.proofs.records.kind_at.Reads as kind-at
 use Rattle.sheet.proofs.records.may_end.Reads as may-end
 use Rattle.sheet.proofs.tables.row_of.Reads as row-of
@@ -35,6 +36,8 @@ Calls t = (
   row-of.Learnt,
   after.Asked,
   after.Learnt,
+  fault-at.Asked,
+  fault-at.Learnt,
   read.Asked,
   read.Learnt,
   past-fixed.Asked,
@@ -72,7 +75,7 @@ module _ (t : ℕ) where
   after-requires c κs = search (class-small, needs)
 
   returns : lts.Need-returns (Calls t) (At t) records.Post Inv-loop μ-loop
-  returns c = search (not-there, needs)
+  returns c = not-there (c .before .before .before .before .before .before .loop .inv) (c .before .before .before .before .before .loop-test .taken) (c .before .before .before .before .kind-at .ensures) (c .before .before .before .row-of .ensures) (c .before .before .after .ensures) (c .fault-at .ensures) (c .before .if1 .taken)
 
   read-requires : lts.Need-read-requires (Calls t) (At t) records.Post Inv-loop μ-loop
   read-requires c κs = let d = started c in omega arith
@@ -84,37 +87,40 @@ module _ (t : ℕ) where
   past-fixed-requires c κs = let d = started (c .before) in (omega arith, (omega (arith, c .read .ensures .0), (omega (arith, c .read .ensures .0), omega arith)))
 
   returns-2 : lts.Need-returns-2 (Calls t) (At t) records.Post Inv-loop μ-loop
-  returns-2 c = not-valid (c .before .before .before .before .before .before .before .before .loop .inv) (c .before .before .before .before .before .before .before .loop-test .taken) (started (c .before .before .before)) (c .before .before .read .ensures .0) _ (c .before .past-fixed .ensures) (c .if2 .taken)
+  returns-2 c = not-valid (c .before .before .before .before .before .before .before .before .before .loop .inv) (c .before .before .before .before .before .before .before .before .loop-test .taken) (started (c .before .before .before .before)) (c .before .before .before .read .ensures .0) _ (c .before .before .past-fixed .ensures) (c .fault-at2 .ensures) (c .before .if2 .taken)
 
   records-requires : lts.Need-records-requires (Calls t) (At t) records.Post Inv-loop μ-loop
   records-requires c κs = let d = entered (c .before) in (omega arith, (d .stop, (omega arith, d .children)))
 
   returns-3 : lts.Need-returns-3 (Calls t) (At t) records.Post Inv-loop μ-loop
-  returns-3 c = children-bad (entered (c .before .before .before .before .before)) (c .before .before .before .records .ensures) (c .before .inner .given .1)
+  returns-3 c = children-bad (entered (c .before .before .before)) (c .before .records .result) (c .before .records .ensures) (c .if4 .taken)
 
   may-end-requires : lts.Need-may-end-requires (Calls t) (At t) records.Post Inv-loop μ-loop
   may-end-requires c κs = entered (c .before) .children
 
+  fault-at-requires-3 : lts.Need-fault-at-requires-3 (Calls t) (At t) records.Post Inv-loop μ-loop
+  fault-at-requires-3 c κs = let d = entered (c .before .before .before) in search (needs, d .stop, d .parent)
+
   returns-4 : lts.Need-returns-4 (Calls t) (At t) records.Post Inv-loop μ-loop
-  returns-4 c = none-bad (entered (c .before .before .before)) (c .before .before .if3 .left) (c .before .may-end .ensures) (not-true _ (c .if4 .taken))
+  returns-4 c = none-bad (entered (c .before .before .before .before)) (c .before .before .before .if3 .left) (c .before .before .may-end .ensures) (c .fault-at3 .ensures) (not-true _ (c .before .if5 .taken))
 
   loop-less : lts.Need-loop-less (Calls t) (At t) records.Post Inv-loop μ-loop
-  loop-less c = let d = entered (c .before .before .before .before) in omega arith
+  loop-less c = let d = entered (c .before .before .before) in omega arith
 
   loop-again : lts.Need-loop-again (Calls t) (At t) records.Post Inv-loop μ-loop
-  loop-again c = children-good (entered (c .before .before .before .before)) (c .before .before .records .ensures) (c .enum-told .given .1)
+  loop-again c = children-good (entered (c .before .before .before)) (c .before .records .result) (c .before .records .ensures) (c .if4 .left)
 
   loop-less-2 : lts.Need-loop-less-2 (Calls t) (At t) records.Post Inv-loop μ-loop
   loop-less-2 c = let d = entered (c .before .before .before) in omega arith
 
   loop-again-2 : lts.Need-loop-again-2 (Calls t) (At t) records.Post Inv-loop μ-loop
-  loop-again-2 c = none-good (entered (c .before .before .before)) (c .before .before .if3 .left) (c .before .may-end .ensures) (not-false _ (c .if4 .left))
+  loop-again-2 c = none-good (entered (c .before .before .before)) (c .before .before .if3 .left) (c .before .may-end .ensures) (not-false _ (c .if5 .left))
 
   returns-5 : lts.Need-returns-5 (Calls t) (At t) records.Post Inv-loop μ-loop
   returns-5 c = search (over-good, needs)
 
   returns-6 : lts.Need-returns-6 (Calls t) (At t) records.Post Inv-loop μ-loop
-  returns-6 c = search (over-bad, needs)
+  returns-6 c = over-bad (c .before .before .before .before .loop .inv) (c .before .before .before .loop-test .left) (c .before .before .may-end2 .ensures) (c .fault-at4 .ensures) (c .before .if6 .left)
 
 pub +records-spec : {M : Type 1} → statement M
 +records-spec =
@@ -124,22 +130,24 @@ pub +records-spec : {M : Type 1} → statement M
     (λ c κs. search needs)
     (λ c κs. search needs)
     (after-requires t)
+    (λ c κs. search needs)
     (returns t)
     (read-requires t)
     (add-stop t)
     (λ c. search needs)
     (past-fixed-requires t)
+    (λ c κs. search needs)
     (returns-2 t)
     (records-requires t)
-    (λ c. search needs)
     (returns-3 t)
-    (λ c. search needs)
     (may-end-requires t)
+    (fault-at-requires-3 t)
     (returns-4 t)
     (loop-less t)
     (loop-again t)
     (loop-less-2 t)
     (loop-again-2 t)
+    (λ c κs. search needs)
     (λ c κs. search needs)
     (returns-5 t)
     (returns-6 t)
