@@ -7,12 +7,13 @@ import shutil
 import subprocess
 
 # The files of proofs/ that compute rows or refute statements, and what they need.
-ROW_FILES = ["Rows", "Readings", "RunRows", "ReadsRows", "Demand3Rows", "RulesOut", "Meaning"]
+ROW_FILES = ["Rows", "Readings", "RunRows", "ReadsRows", "Demand3Rows", "RulesOut", "Meaning", "AnalyzeRows", "AnalyzeExprRows"]
 NEEDED = ["All"]
 # Where a change of a file is likely to be met first; the other crates follow in the order of crates.txt.
 FIRST_MET = {
-    "Lower": ["walk"], "Sema": ["walk"], "Ast": ["walk"], "Verify": ["verify"], "Records": ["sheet"], "Grammar": ["sheet"], "Fields": ["fields", "reader"],
-    "ContractSheet": ["nodes", "walk"], "ProgramSheet": ["verify", "walk"], "Answers": ["verify", "lower"], "Lines": ["lines"], "Names": ["names"], "Ir": ["ir", "walk"], "InstrTable": ["ir", "walk"],
+    "Lower": ["lower_walk"], "Sema": ["lower_walk"], "Analyze": ["analyze_walk"], "Ast": ["lower_walk"], "Verify": ["verify"], "Records": ["sheet"], "Grammar": ["sheet"], "Fields": ["reader"],
+    "ContractSheet": ["contract_nodes", "lower_walk"], "ProgramSheet": ["verify", "lower_walk"], "Answers": ["verify", "lower"], "Lines": ["lines"], "Names": ["contract_lookup"],
+    "Ir": ["ir", "lower_walk"], "InstrTable": ["ir", "lower_walk"],
 }
 # A check that takes more seconds of a processor than this is stopped, and counts as refused: unchanged, the rows take 2 and a crate 60 at most.
 MOST_SECONDS = 300

@@ -2,4 +2,5 @@ pub mod Children
 pub mod Exprs
 pub mod Order
 pub mod Stmts
+pub mod Parts
 pub mod Tops

@@ -8,10 +8,10 @@ use lib.Dec.{eqb}
 use lib.ListN.{length}
 use borrow.Author.Tests.{ne-eqb}
 use Rattle.definitions.specs.Fields.{le}
-use Rattle.definitions.specs.Ast.{Expr, Exprs, econs, absent, present, Stmt, OptStmts, noElse, elseDo}
+use Rattle.definitions.specs.Ast.{econs, absent, present, Stmt, OptStmts, noElse, elseDo}
 use Rattle.definitions.specs.Grammar.{Class, Field, Pattern, done, one, perhaps, many, rows}
 use Rattle.definitions.specs.Records.{rowIn, small, item, node, Trees, tcons, readRecords}
-use Rattle.definitions.specs.ContractSheet.{firstE, restE, exprsOf, noBlock, andBlock, optB, stmtFrom, stmtOf, blocksOf}
+use Rattle.definitions.specs.ContractSheet.{exprsOf, noBlock, andBlock, optB, stmtFrom, stmtOf, blocksOf}
 use Rattle.definitions.proofs.Sheets.Lines.{OfRows, Given, by-lines}
 use Rattle.sheet.specs.Passed.{recordKind, stopOf}
 use Rattle.contract_nodes.specs.Ready.{treeAt, exprAt, exprsFrom, stmtAt, stmtsFrom, Ready, ReadyAll}
@@ -75,19 +75,23 @@ pub expr-stmt-at : {s : List ℕ} {at d : ℕ} → Ready Class.statement s at d 
 unfolding rowIn rows stmtOf
 expr-stmt-at r e = let n = plain (one Class.expression done) refl r e in plain-at n (one-first (n .kids))
 
--- 14: MappingWrite
-pub record MappingAt (s : List ℕ) (at : ℕ) : Type 0 where
-  pub fits : at + 8 ≤ length s
-  pub key : Expr
-  pub value : Expr
-  pub is : stmtAt s at ≡ Stmt.MappingWrite at (le 2 s (at + 6)) key value
+-- 14: MappingWrite, its key and its value
+pub record MappingAt (s : List ℕ) (at d : ℕ) : Type 0 where
+  pub key : Ready Class.expression s (at + 8) (d - 1)
+  pub value : Ready Class.expression s (stopOf s (at + 8)) (d - 1)
+  pub is : stmtAt s at ≡ Stmt.MappingWrite at (le 2 s (at + 6)) (exprAt s (at + 8)) (exprAt s (stopOf s (at + 8)))
 
-pub mapping-at : {s : List ℕ} {at d : ℕ} → Ready Class.statement s at d → recordKind s at ≡ 14 → MappingAt s at
+pub mapping-at : {s : List ℕ} {at d : ℕ} → Ready Class.statement s at d → recordKind s at ≡ 14 → MappingAt s at d
 unfolding rowIn rows stmtOf
-mapping-at {s} {at} r e =
-    let n = named 65534 (one Class.expression (one Class.expression done)) refl r e in
-    let es : Exprs = exprsFrom s (at + 8) (stopOf s at) in
-    record { fits = n .room; key = firstE es; value = firstE (restE es); is = ap stmtOf (n .tree) }
+mapping-at {s} {at} {d} r e =
+    let n : Named 65534 (one Class.expression (one Class.expression done)) s at 14 d = named 65534 (one Class.expression (one Class.expression done)) refl r e in
+    let f : First Class.expression (one Class.expression done) s (at + 8) (stopOf s at) (d - 1) = one-first (n .kids) in
+    let g : First Class.expression done s (stopOf s (at + 8)) (stopOf s at) (d - 1) = one-first (f .rest) in
+    record {
+      key = f .ready;
+      value = g .ready;
+      is = ap stmtOf (n .tree ∙ ap (node at 14 (item (small (le 2 s (at + 6))) ∷ [])) (f .is ∙ ap (tcons (treeAt s (at + 8))) (g .is)));
+    }
 
 -- 18: Return, with a value or with none
 pub record ReturnAt (s : List ℕ) (at d : ℕ) : Type 0 where

@@ -16,3 +16,5 @@ pub mod Demand3Rows
 pub mod Meaning
 pub mod InstrTable
 pub mod Readings
+pub mod AnalyzeRows
+pub mod AnalyzeExprRows

@@ -1,4 +1,5 @@
--- The two operations' answers (document 01, "What each number means"), in its order: 1, 3, 4, the walk, 31; and 1, 40, the walk.
+-- The operations' answers (document 01, "What each number means"), in its order: 1, 3, 4, the walk, 31; and 1, 40, the walk; and of the body check
+-- (document 02, order 1) 1, 3, 4, 51.
 -- Assumes nothing: these are definitions.
 use Prim.Native.Nat.{ℕ, zero, suc}
 use mathlib.Core.List.{List, [], _∷_}
@@ -9,6 +10,7 @@ use lib.ListN.{length}
 use Rattle.definitions.specs.Result.{Result, err, ok, _>>=_, _>>_, mapErr, Done, check}
 use Rattle.definitions.specs.Ir.{IrType, tagOf, nameOf}
 use Rattle.definitions.specs.Lower.{LoweringError, lowerContract}
+use Rattle.definitions.specs.Analyze.{SemaError, analyze}
 use Rattle.definitions.specs.Verify.{VerifyError, verifyProgram}
 use Rattle.definitions.specs.Records.{Form, Good, Bad}
 use Rattle.definitions.specs.ContractSheet.{readContract, refusal3, refusal4}
@@ -62,6 +64,29 @@ checkContract s = do
   check (leb (length s) 32768) (refusal 1 [])
   refuseForm 3 (refusal3 s)
   refuseForm 4 (refusal4 s)
+
+-- 51: "with the place .. and the number, 1 to 13, of its error text in the order of `sema.rs`"
+abbrev pub semaRefusal : SemaError → Refusal
+semaRefusal (SemaError.AssignMismatch p expected got) = refusal 51 (p ∷ 1 ∷ [])
+semaRefusal (SemaError.UndefinedVariable p n) = refusal 51 (p ∷ 2 ∷ [])
+semaRefusal (SemaError.ReturnMismatch p expected got) = refusal 51 (p ∷ 3 ∷ [])
+semaRefusal (SemaError.UndefinedIdentifier p n) = refusal 51 (p ∷ 4 ∷ [])
+semaRefusal (SemaError.NoSuchField p s f) = refusal 51 (p ∷ 5 ∷ [])
+semaRefusal (SemaError.FieldOfNonStruct p) = refusal 51 (p ∷ 6 ∷ [])
+semaRefusal (SemaError.FieldMismatch p f) = refusal 51 (p ∷ 7 ∷ [])
+semaRefusal (SemaError.UnknownField p f) = refusal 51 (p ∷ 8 ∷ [])
+semaRefusal (SemaError.UndefinedStruct p n) = refusal 51 (p ∷ 9 ∷ [])
+semaRefusal (SemaError.ArgumentCount p n expected got) = refusal 51 (p ∷ 10 ∷ [])
+semaRefusal (SemaError.ArgumentMismatch p i n) = refusal 51 (p ∷ 11 ∷ [])
+semaRefusal (SemaError.UndefinedFunction p n) = refusal 51 (p ∷ 12 ∷ [])
+semaRefusal (SemaError.BinaryMismatch p) = refusal 51 (p ∷ 13 ∷ [])
+
+-- the body check of a sheet: "51 if the body check finds an error, after 1, 3 and 4". It writes nothing.
+unfoldable pub analyzeSheet : List ℕ → Answer
+analyzeSheet s = do
+  checkContract s
+  mapErr semaRefusal (analyze (readContract s))
+  ok []
 
 -- lowering a sheet, with an output of `room` bytes lent
 unfoldable pub lowerSheet : List ℕ → (room : ℕ) → Answer

@@ -7,6 +7,7 @@ pub mod Ir
 pub mod InstrTable
 pub mod Sema
 pub mod Lower
+pub mod Analyze
 pub mod Verify
 pub mod Run
 pub mod Grammar
@@ -25,3 +26,5 @@ pub mod RunClauses
 pub mod Demand3Rows
 pub mod Meaning
 pub mod Readings
+pub mod AnalyzeRows
+pub mod AnalyzeExprRows

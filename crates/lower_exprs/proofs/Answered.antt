@@ -19,7 +19,8 @@ use Rattle.ir.specs.declared.ValueId.{ValueId}
 use Rattle.lower_walk.specs.Held.{Held, names}
 use Rattle.lower_walk.specs.Log.{Log, push}
 use Rattle.lower_walk.specs.Exprs.{Walked, pushValue, walkIdent, walkStorageRead, walkField}
-use Rattle.lower_names.specs.Answers.{slotNamed, fieldOffset}
+use Rattle.contract_lookup.specs.Answers.{slotNamed}
+use Rattle.lower_names.specs.Answers.{fieldOffset}
 use Rattle.lower_emit.specs.Emitted.{Pushes}
 use Rattle.lower_emit.specs.declared.Pushed.{Pushed}
 use Rattle.lower_state.specs.State.{logIn, Same}

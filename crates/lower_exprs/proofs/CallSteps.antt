@@ -23,7 +23,7 @@ use Rattle.contract_nodes.proofs.Exprs.{CallAt}
 use Rattle.lower_walk.specs.Held.{Held}
 use Rattle.lower_walk.specs.Log.{Log}
 use Rattle.lower_walk.specs.Exprs.{Walked, walkUserCall, walkCall, walkExpr, walkArgs}
-use Rattle.lower_names.specs.Answers.{signatureIn, signatureNamed}
+use Rattle.contract_lookup.specs.Answers.{signatureIn, signatureNamed}
 use Rattle.ir.specs.declared.ValueId.{ValueId}
 use Rattle.lower_state.specs.State.{logIn}
 use Rattle.lower_state.specs.declared.FnCtx.{FnCtx}

@@ -8,7 +8,7 @@ use Rattle.definitions.specs.Result.{err, ok, _>>=_, _>>_, okOrElse}
 use Rattle.definitions.specs.Ast.{Exprs, enil, Contract}
 use Rattle.definitions.specs.Ir.{IrType, Instruction}
 use Rattle.definitions.specs.Lower.{LoweringError, Lowering, Callee, contextFn, poseidonFn, merkleProofFn, userFn, callee, twoOf}
-use Rattle.lower_names.specs.Answers.{signatureNamed}
+use Rattle.contract_lookup.specs.Answers.{signatureNamed}
 use Rattle.lower_walk.specs.Log.{Log}
 use Rattle.lower_walk.specs.Exprs.{Walked, pushValue, walkUserCall}
 

@@ -14,12 +14,12 @@ ghost use Rattle.lower_exprs.specs.Exprs.{loweredIn, calleeOf, LoweredSa
 use crate::Callee;
 use crate::Lowered;
 use crate::value_of;
+use contract_lookup::Signature;
 use format::program;
 use ir::FunctionId;
 use ir::IrType;
 use ir::Name;
 use ir::ValueId;
-use lower_names::Signature;
 use lower_state::FnCtx;
 use lower_state::Log;
 use lower_state::LoweringError;
@@ -29,7 +29,7 @@ fn user_callee(s: &[u8], name: Name) -> Callee
     requires { ⌜ ContractPassed (now s) ⌝ }
     ensures { λ r. ⌜ calleeOf r ≡ resolveUser (readContract (now (s .entry))) (name .0) ⌝ }
 {
-    match lower_names::symbols::signature(s, name) {
+    match contract_lookup::symbols::signature(s, name) {
         Signature::At(function, ty) => Callee::User(function, ty),
         Signature::Undefined => Callee::Refused(LoweringError::UndefinedFunction(name)),
     }

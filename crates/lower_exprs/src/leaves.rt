@@ -14,6 +14,7 @@ ghost use Rattle.lower_exprs.specs.Exprs.{loweredIn, valuedIn, fieldOn, 
 use crate::Lowered;
 use crate::Valued;
 use crate::value_of;
+use contract_lookup::Slot;
 use format::operators;
 use ir::IrType;
 use ir::Name;
@@ -21,7 +22,6 @@ use ir::ValueId;
 use lower_names::Entries;
 use lower_names::Lookup;
 use lower_names::Offset;
-use lower_names::Slot;
 use lower_names::Top;
 use lower_state::FnCtx;
 use lower_state::Log;
@@ -59,7 +59,7 @@ pub(crate) fn lower_storage_read(s: &[u8], name: Name, ctx: FnCtx, log: &mut Log
     ensures { λ r. ⌜ loweredIn (now (log .exit)) r ≡ walkStorageRead (readContract (now (s .entry))) (name .0) (logIn (now (log .entry)) ctx) ⌝ }
     ensures { λ r. ⌜ LoweredSame ctx r ⌝ }
 {
-    match lower_names::symbols::storage_slot(s, name) {
+    match contract_lookup::symbols::storage_slot(s, name) {
         Slot::At(slot) => value_of(lower_emit::emit_state_read(log, ctx, slot), IrType::U64),
         Slot::Undeclared => Lowered::Refused(LoweringError::UndefinedVariable(name)),
     }
@@ -78,7 +78,7 @@ fn read_field(
     ensures { λ r. ⌜ loweredIn (now (log .exit)) r ≡ walkField (readContract (now (s .entry))) (field .0) (base .0) (asType ty) (logIn (now (log .entry)) ctx) ⌝ }
     ensures { λ r. ⌜ LoweredSame ctx r ⌝ }
 {
-    match lower_names::symbols::field_offset(s, ty, field) {
+    match lower_names::offsets::field_offset(s, ty, field) {
         Offset::At(offset) => value_of(lower_emit::emit_load(log, ctx, base, offset), IrType::U64),
         Offset::Refused(e) => Lowered::Refused(e),
     }

@@ -9,6 +9,7 @@ ghost use Rattle.contract_nodes.specs.Ready.{Ready};
 ghost use Rattle.sheet.specs.Passed.{ContractPassed};
 ghost use Rattle.lower_exprs.specs.declared.Lowered.the-variants as lowered;
 ghost use Rattle.lower_exprs.specs.Exprs.{loweredIn, valuedIn, LoweredSame, ValuedSame, exprOn, exprValueOn};
+use contract_lookup::name_at;
 use format::KIND;
 use format::contract;
 use format::kinds;
@@ -99,14 +100,6 @@ pub fn lower_expr(
         }
         _ => lower_call(s, at, depth, entries, top, ctx, log),
     }
-}
-
-// The name of the record at a place.
-pub fn name_at(s: &[u8], at: usize) -> Name
-    requires { ⌜ (at + 8 ≤ length (now s)) × (at ≤ 32768) ⌝ }
-    ensures { λ r. ⌜ r .0 ≡ le 2 (now (s .entry)) (at + 6) ⌝ }
-{
-    Name::new(read_u16(s, at + contract::NAME))
 }
 
 // The same state. It is copied field by field: a copy of the whole waits until the fields, which were just stored one by one, are in the cache.

@@ -25,7 +25,7 @@ use Rattle.sheet.specs.Passed.{recordKind, stopOf}
 use Rattle.contract_nodes.specs.Ready.{treeAt, functionAt}
 use Rattle.sheet.specs.Passed.{ContractPassed}
 use Rattle.contract_nodes.proofs.Tops.{Tops, Top, next-top, contract-at, function-at}
-use Rattle.lower_names.specs.Answers.{signatureNamed}
+use Rattle.contract_lookup.specs.Answers.{signatureNamed}
 use Rattle.lower_layout.specs.Laid.{roomOf, Laid}
 use Rattle.lower_layout.specs.Stored.{isNamed, Span, stop, past}
 use Rattle.lower_layout.proofs.Storing.{laid-then}

@@ -1,6 +1,2 @@
-mod Firsts
-mod Lasts
 mod Packed
-mod Reading
-mod Storing
 mod Symbolic

@@ -1,54 +1,12 @@
--- From the record that was found to the answer: a slot, an offset, a signature. Assumes nothing.
-use mathlib.Core.Path.{_≡_, refl, ap}
+-- From the struct that was found to an offset. Assumes nothing.
+use mathlib.Core.Path.{_≡_}
 use mathlib.Core.Option.{Option, none, some}
-use mathlib.Core.List.{List}
 use Prim.Native.Nat.{ℕ, _*_}
 use Rattle.definitions.specs.Result.{ok, _>>=_, okOrElse}
-use Rattle.definitions.specs.Ast.{StorageField, Struct, Function, Contract}
+use Rattle.definitions.specs.Ast.{Struct, Contract}
 use Rattle.definitions.specs.Ir as defs
-use Rattle.definitions.specs.Records.{Tree, node}
-use Rattle.definitions.specs.ContractSheet.{storageOf, structOf, functionOf, readContract}
-use Rattle.definitions.specs.Lower.{LoweringError, storageNamed, structNamed, fieldPosition}
-use Rattle.definitions.specs.Sema as sema
-use Rattle.sheet.specs.Passed.{ContractPassed}
-use Rattle.contract_nodes.proofs.Tops.{contract-at}
-use Rattle.lower_names.specs.declared.Found.{Found}
-use Rattle.lower_names.specs.Answers.{foundIn, treeName, slotNamed, fieldOffset, signatureNamed, lastOf}
-use Rattle.lower_names.proofs.Lasts.{over-second, in-table}
-
--- the names of the three tables
-storage-name : (t : Tree) → storageOf t .name ≡ treeName t
-storage-name (node at k v ts) = refl
-
-struct-name : (t : Tree) → structOf t .name ≡ treeName t
-struct-name (node at k v ts) = refl
-
-function-name : (t : Tree) → functionOf t .name ≡ treeName t
-unfolding functionOf
-function-name (node at k v ts) = refl
-
--- what `last_named` ensures
-abbrev pub FoundAs : List ℕ → (k n : ℕ) → Found → Type 0
-FoundAs s k n r = foundIn s r ≡ lastOf s k n
-
-module _ {s : List ℕ} (n : ℕ) (C : ContractPassed s) {r u : Found} (e : r ≡ u) where
-  pub storage-is : FoundAs s 2 n r → storageNamed (readContract s) n ≡ over-second storageOf (foundIn s u)
-  storage-is q = in-table 2 n storageOf (λ (f : StorageField). f .name) C storage-name (contract-at C .storage) e q
-
-  pub struct-is : FoundAs s 3 n r → structNamed (readContract s) n ≡ over-second structOf (foundIn s u)
-  struct-is q = in-table 3 n structOf (λ (f : Struct). f .name) C struct-name (contract-at C .structs) e q
-
-  pub function-is : FoundAs s 4 n r → sema.functionNamed (readContract s) n ≡ over-second functionOf (foundIn s u)
-  function-is q = in-table 4 n functionOf (λ (f : Function). f .name) C function-name (contract-at C .functions) e q
-
--- a slot
-pub slot-here : {i : ℕ} {f : StorageField} (K : Contract) (n : ℕ) → storageNamed K n ≡ some (i, f) → some i ≡ slotNamed K n
-unfolding slotNamed
-slot-here K n e = rw e
-
-pub no-slot : (K : Contract) (n : ℕ) → storageNamed K n ≡ none → none ≡ slotNamed K n
-unfolding slotNamed
-no-slot K n e = rw e
+use Rattle.definitions.specs.Lower.{LoweringError, structNamed, fieldPosition}
+use Rattle.lower_names.specs.Answers.{fieldOffset}
 
 -- an offset, by what the search for the field gave
 pub offset-here : {j : ℕ} {d : Struct} (K : Contract) (n f : ℕ) (o : Option ℕ) → structNamed K n ≡ some (j, d) → o ≡ fieldPosition (d .fields) f
@@ -59,12 +17,3 @@ offset-here K n f o e q = rw (e, q)
 pub no-offset : (K : Contract) (n f : ℕ) → structNamed K n ≡ none → okOrElse none (LoweringError.UnresolvedType n) ≡ fieldOffset K (defs.IrType.Struct n) f
 unfolding fieldOffset
 no-offset K n f e = rw e
-
--- a signature
-pub signature-here : {i : ℕ} {g : Function} {t : defs.IrType} (K : Contract) (n : ℕ) → sema.functionNamed K n ≡ some (i, g) → t ≡ sema.returnType (g .returnType) → some (i, t) ≡ signatureNamed K n
-unfolding signatureNamed
-signature-here {i} K n e q = rw e (ap (λ (x : defs.IrType). some (i, x)) q)
-
-pub no-signature : (K : Contract) (n : ℕ) → sema.functionNamed K n ≡ none → none ≡ signatureNamed K n
-unfolding signatureNamed
-no-signature K n e = rw e

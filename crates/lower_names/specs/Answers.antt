@@ -1,84 +1,22 @@
 -- The code's answers in the words of the definitions. Assumes nothing: these are definitions.
-use Prim.Native.Nat.{ℕ, _*_, _/_, _%_}
-use lib.Dec.{eqb}
-use mathlib.Core.List.{List}
+use Prim.Native.Nat.{ℕ, _*_}
 use mathlib.Core.Option.{Option, none, some}
 use Rattle.definitions.specs.Result.{err, ok, _>>=_, _>>_, okOrElse}
-use Rattle.definitions.specs.Ast.{StorageField, Function, Contract}
+use Rattle.definitions.specs.Ast.{Contract}
 use Rattle.definitions.specs.Ir as defs
 use Rattle.definitions.specs.Lower as lowering
-use Rattle.definitions.specs.Lower.{Lowering, storageNamed, structNamed, fieldPosition, structOf}
-use Rattle.definitions.specs.Names.{lastNamed}
-use Rattle.definitions.specs.Records.{pick, Tree, node, numAt, gather}
-use Rattle.definitions.specs.Sema as sema
+use Rattle.definitions.specs.Lower.{Lowering, structNamed, fieldPosition, structOf}
 use Rattle.ir.specs.Types.{asType}
-use Rattle.sheet.specs.Passed.{childrenOf}
-use Rattle.contract_nodes.specs.Ready.{treeAt, topClass, Ready}
 use Rattle.lower_state.specs.Errors.{errorOf}
 use Rattle.lower_names.specs.declared.Lookup.{Lookup}
 use Rattle.lower_names.specs.declared.Lookup.the-variants as lookup
-use Rattle.lower_names.specs.declared.Found.{Found}
-use Rattle.lower_names.specs.declared.Found.the-variants as found
-use Rattle.lower_names.specs.declared.Slot.{Slot}
-use Rattle.lower_names.specs.declared.Slot.the-variants as slot
-use Rattle.lower_names.specs.declared.Position.{Position}
-use Rattle.lower_names.specs.declared.Position.the-variants as position
 use Rattle.lower_names.specs.declared.Offset.{Offset}
 use Rattle.lower_names.specs.declared.Offset.the-variants as offset
-use Rattle.lower_names.specs.declared.Signature.{Signature}
-use Rattle.lower_names.specs.declared.Signature.the-variants as signature
 
 -- a name that is held: its local and type
 abbrev pub lookupOf : Lookup → Option (ℕ × defs.IrType)
 lookupOf (lookup.Local l t) = some (l .0, asType t)
 lookupOf lookup.NotHeld = none
-
--- a record of the contract: its position among those of its kind, and the record
-abbrev pub foundIn : List ℕ → Found → Option (ℕ × Tree)
-foundIn s (found.At i p) = some (i, treeAt s p)
-foundIn s found.Missing = none
-
--- a record of the kind k that was found stands at its place
-abbrev pub StandsAt : List ℕ → ℕ → Found → Type 0
-StandsAt s k (found.At i p) = Ready (topClass k) s p 39
-StandsAt s k found.Missing = Unit {0}
-
--- what a walk found, as one number
-unfoldable pub foundOf : ℕ → Found
-foundOf n = pick (eqb n 0) found.Missing (found.At (n % 65536) (n / 65536))
-
--- a storage field by its place, 8 + 10 * i for the i-th; 0 is nothing
-unfoldable pub storedAt : ℕ → Found
-storedAt p = pick (eqb p 0) found.Missing (found.At (p / 10) p)
-
--- what a later record gave, or else what the earlier ones gave
-abbrev pub orEarlier : Found → Found → Found
-orEarlier (found.At i p) e = found.At i p
-orEarlier found.Missing e = e
-
--- the name of a storage field, a struct or a function
-abbrev pub treeName : Tree → ℕ
-treeName (node at k v ts) = numAt 0 v
-
--- the last record of a kind in the contract that has a name
-abbrev pub lastOf : List ℕ → (kind name : ℕ) → Option (ℕ × Tree)
-lastOf s kind name = lastNamed treeName 0 (gather kind kind (λ (t : Tree). t) (childrenOf s 0)) name
-
-abbrev pub slotOf : Slot → Option ℕ
-slotOf (slot.At i) = some i
-slotOf slot.Undeclared = none
-
-abbrev positionIn : Option (ℕ × StorageField) → Option ℕ
-positionIn none = none
-positionIn (some p) = some (p .0)
-
--- the slot of a storage field
-unfoldable pub slotNamed : Contract → ℕ → Option ℕ
-slotNamed K n = positionIn (storageNamed K n)
-
-abbrev pub positionOf : Position → Option ℕ
-positionOf (position.At i) = some i
-positionOf position.Missing = none
 
 -- the offset of the field f in a value of type ty
 unfoldable pub fieldOffset : Contract → defs.IrType → ℕ → Lowering ℕ
@@ -91,15 +29,3 @@ fieldOffset K ty f = do
 abbrev pub offsetOf : Offset → Lowering ℕ
 offsetOf (offset.At n) = ok n
 offsetOf (offset.Refused e) = err (errorOf e)
-
--- a function's id and the type of a call of it
-abbrev pub signatureIn : Option (ℕ × Function) → Option (ℕ × defs.IrType)
-signatureIn none = none
-signatureIn (some p) = some (p .0, sema.returnType (p .1 .returnType))
-
-unfoldable pub signatureNamed : Contract → ℕ → Option (ℕ × defs.IrType)
-signatureNamed K n = signatureIn (sema.functionNamed K n)
-
-abbrev pub signatureOf : Signature → Option (ℕ × defs.IrType)
-signatureOf (signature.At f t) = some (f .0, asType t)
-signatureOf signature.Undefined = none

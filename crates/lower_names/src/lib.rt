@@ -1,12 +1,10 @@
-// What a name stands for: a type, a local that is held, a storage field, a struct's field, a function.
-use ir::FunctionId;
+// What a name stands for in lowering: a local that is held, a field's offset.
 use ir::IrType;
 use ir::LocalId;
 use lower_state::LoweringError;
 
 pub mod held; // the names that are held
-pub mod symbols; // storage fields, structs and functions by name
-pub mod types; // types by name
+pub mod offsets; // fields of a value
 
 // A name's local and type, if it is held.
 pub enum Lookup {
@@ -14,34 +12,10 @@ pub enum Lookup {
     NotHeld,
 }
 
-// A record of the contract: its position among those of its kind, and its place.
-pub enum Found {
-    At(usize, usize),
-    Missing,
-}
-
-// A storage field's slot.
-pub enum Slot {
-    At(usize),
-    Undeclared,
-}
-
-// A struct's field, by position.
-pub enum Position {
-    At(usize),
-    Missing,
-}
-
 // A field's offset in bytes, or why there is none.
 pub enum Offset {
     At(usize),
     Refused(LoweringError),
-}
-
-// A function's id and the type of a call of it.
-pub enum Signature {
-    At(FunctionId, IrType),
-    Undefined,
 }
 
 // How many names may be held: each has a local.

@@ -30,12 +30,13 @@ use Rattle.lower_state.specs.State.{ctxIn, logIn, Same, Sound}
 use Rattle.lower_state.specs.declared.FnCtx.{FnCtx}
 use Rattle.lower_state.specs.declared.LoweringError.{LoweringError}
 use Rattle.lower_state.specs.declared.LoweringError.the-variants as code
-use Rattle.lower_names.specs.Answers.{lookupOf, slotOf, slotNamed}
+use Rattle.contract_lookup.specs.Answers.{slotOf, slotNamed}
+use Rattle.lower_names.specs.Answers.{lookupOf}
 use Rattle.lower_names.specs.HeldNames.{heldIn}
 use Rattle.lower_names.specs.declared.Lookup.{Lookup}
 use Rattle.lower_names.specs.declared.Lookup.the-variants as lookup
-use Rattle.lower_names.specs.declared.Slot.{Slot}
-use Rattle.lower_names.specs.declared.Slot.the-variants as slot
+use Rattle.contract_lookup.specs.declared.Slot.{Slot}
+use Rattle.contract_lookup.specs.declared.Slot.the-variants as slot
 use Rattle.lower_names.specs.declared.Top.{Top}
 use Rattle.lower_emit.specs.Emitted.{idsOf, Appends}
 use Rattle.lower_exprs.specs.Exprs.{loweredIn, valuedIn, LoweredSame, ValuedSame, exprOn, exprValueOn}

@@ -8,6 +8,8 @@ ghost use Rattle.contract_nodes.specs.Ready.{Ready};
 ghost use Rattle.sheet.specs.Passed.{ContractPassed};
 ghost use Rattle.lower_state.specs.State.{Sound};
 ghost use Rattle.lower_flow.specs.Done.{StmtDone};
+use contract_lookup::Slot;
+use contract_lookup::name_at;
 use format::HEAD;
 use format::contract;
 use ir::ValueId;
@@ -16,7 +18,6 @@ use lower_exprs::Valued;
 use lower_exprs::copied;
 use lower_exprs::lower_expr;
 use lower_exprs::lower_expr_value;
-use lower_exprs::name_at;
 use lower_flow::MadeLocal;
 use lower_flow::Stepped;
 use lower_flow::make::init_local;
@@ -24,7 +25,6 @@ use lower_flow::terminate::return_none;
 use lower_flow::terminate::return_value;
 use lower_names::Entries;
 use lower_names::Lookup;
-use lower_names::Slot;
 use lower_names::Top;
 use lower_state::FnCtx;
 use lower_state::Log;
@@ -132,7 +132,7 @@ pub fn lower_storage_write(
     ensures { λ r. ⌜ ((tables : List ℕ) → StmtDone (now (s .entry)) at (now (entries .entry)) top (now (log .entry)) tables ctx (now (log .exit)) tables r) ⌝ }
 {
     let name = name_at(s, at);
-    let found = lower_names::symbols::storage_slot(s, name);
+    let found = contract_lookup::symbols::storage_slot(s, name);
     let value = at + contract::AFTER_NAME;
     let lowered = lower_expr_value(s, value, depth - 1, entries, top, ctx, log);
     match lowered {

@@ -1,2 +1,1 @@
-pub mod StmtParts
 pub mod StmtSteps

@@ -3,6 +3,7 @@ use Prim.Native.Nat.{ℕ, suc, _+_, _-_, _*_, _<_, _≤_}
 use mathlib.Core.Path.{_≡_, ap, ap₂, sym, _∙_, subst}
 use mathlib.Core.List.{List, _∷_}
 use mathlib.Core.Bool.{true, false}
+use mathlib.Core.Logic.{⊎-elim}
 use native.Mathlib.Omega.{arith}
 use Rattle.definitions.specs.Result.{ok, _>>=_}
 use Rattle.definitions.specs.Fields.{le}
@@ -16,6 +17,7 @@ use Rattle.sheet.specs.Passed.{recordKind, stopOf}
 use Rattle.contract_nodes.specs.Ready.{stmtAt, stmtsFrom, Ready, ReadyAll}
 use Rattle.sheet.specs.Passed.{ContractPassed}
 use Rattle.contract_nodes.proofs.Children.{more, no-more}
+use Rattle.contract_nodes.proofs.Parts.{Arm}
 use Rattle.lower_walk.specs.Held.{Held}
 use Rattle.lower_walk.specs.Stmts as walk
 use Rattle.lower_walk.specs.Stmts.{LogCtx, switchTo, nextArm, enterIf, enterWhile, forLocals, forBlocks, forStep, walkStmt, walkStmts, walkElse}
@@ -74,6 +76,11 @@ inner B es xs = walkStmts (readContract (B .sheet)) (suc (B .top .scope)) es xs
 
 abbrev onList : Begun → Scopes → Stmts → LogCtx → Lowering LogCtx
 onList B sc xs = walkStmts (readContract (B .sheet)) (sc .scope) (heldIn (sc .entries) (sc .count)) xs
+
+-- the second arm, as it is walked
+pub arm-walks : {s : List ℕ} {q from e d : ℕ} {arms : OptStmts} → Arm s q from e d arms → (K : Contract) (n : ℕ) (es : Held) (c : LogCtx) → walkElse K n es arms c ≡ walkStmts K n es (stmtsFrom s from e) c
+unfolding walkElse
+arm-walks A K n es c = ⊎-elim (λ z. ap (λ (a : OptStmts). walkElse K n es a c) (z .0) ∙ ap (λ (ss : Stmts). walkStmts K n es ss c) (sym (z .1))) (λ z. ap (λ (a : OptStmts). walkElse K n es a c) (z .1)) (A .is)
 
 -- WHAT IT IS: its parts, and what is left after each
 abbrev pub elseArm : Begun → OptStmts → walk.Blocks → LogCtx → Lowering (LogCtx × Held)

@@ -36,9 +36,8 @@ fn print(table: &Table) {
     for (number, row) in table.rows.iter().enumerate() {
         let mut row = row();
         let times = least(&mut row.calls);
-        let counts = [0, 1].map(|call| {
-            instructions(&[table.name, &number.to_string(), &call.to_string()])
-        });
+        let counts =
+            [0, 1].map(|call| instructions(&[table.name, &number.to_string(), &call.to_string()]));
         let cells = match table.columns {
             Columns::Calls(_) => calls_cells(&times, counts),
             Columns::Growth => growth_cells(row.sheet.len(), &times, counts),

@@ -98,7 +98,9 @@ fn main() {
     match rest {
         [] => {
             print_head();
-            tables().iter().for_each(|table| print(paths, &archives, table));
+            tables()
+                .iter()
+                .for_each(|table| print(paths, &archives, table));
         }
         [name] => {
             print_head();
@@ -125,7 +127,13 @@ fn print([other, this]: [&str; 2], archives: &Archives, table: &Table) {
         let row = row();
         let times = least(&mut calls(archives, &row));
         let counts = [0, 1].map(|call: usize| {
-            instructions(&[other, this, table.name, &number.to_string(), &call.to_string()])
+            instructions(&[
+                other,
+                this,
+                table.name,
+                &number.to_string(),
+                &call.to_string(),
+            ])
         });
         let whole = |count: Option<f64>| count.map_or("-".to_string(), |count| format!("{count}"));
         println!(

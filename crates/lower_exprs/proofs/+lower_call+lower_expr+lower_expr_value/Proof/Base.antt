@@ -19,7 +19,7 @@ use Rattle.lower_exprs.proofs.leaves.lower_ident.Reads as lower-ident-r
 use Rattle.lower_exprs.proofs.leaves.lower_int.Reads as lower-int-reads
 use Rattle.lower_exprs.proofs.leaves.lower_storage_read.Reads as lower-storage-read-reads
 use Rattle.lower_exprs.proofs.copied.Reads as copied-reads
-use Rattle.lower_exprs.proofs.name_at.Reads as name-at-reads
+use Rattle.contract_lookup.proofs.name_at.Reads as name-at-reads
 use Rattle.reader.proofs.read.Reads as read-reads
 use Rattle.sheet.proofs.places.count.Reads as count-reads
 

@@ -1,7 +1,7 @@
 -- `calls::user_callee`: by the signature. Assumes nothing.
 use mathlib.Core.Path.{ap, sym, _∙_}
 use borrow.Author.Needs.{needs}
-use Rattle.lower_names.specs.Answers.{signatureOf}
+use Rattle.contract_lookup.specs.Answers.{signatureOf}
 use Rattle.lower_exprs.specs.Calls.{resolveUser}
 use Rattle.lower_exprs.proofs.calls.user_callee.Statement.{statement}
 use Rattle.lower_exprs.proofs.calls.user_callee.Tie as tie

@@ -1,7 +1,7 @@
 -- `leaves::lower_storage_read`: by the slot. Assumes nothing.
 use mathlib.Core.Path.{ap, sym, _∙_}
 use borrow.Author.Needs.{needs}
-use Rattle.lower_names.specs.Answers.{slotOf}
+use Rattle.contract_lookup.specs.Answers.{slotOf}
 use Rattle.lower_exprs.proofs.Answered.{pushes, atSlot, by-slot}
 use Rattle.lower_exprs.proofs.leaves.lower_storage_read.Statement.{statement}
 use Rattle.lower_exprs.proofs.leaves.lower_storage_read.Tie as tie

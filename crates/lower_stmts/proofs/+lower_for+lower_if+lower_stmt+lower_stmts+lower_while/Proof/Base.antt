@@ -15,7 +15,7 @@ use Rattle.lower_stmts.proofs.+lower_for+lower_if+lower_stmt+lower_stmt
 use Rattle.lower_stmts.proofs.lower_while.Reads as lower-while
 use Rattle.lower_stmts.proofs.+lower_for+lower_if+lower_stmt+lower_stmts+lower_while.Lts-lower_while as lower-while-lts
 use Rattle.reader.proofs.read.Reads as read-reads
-use Rattle.lower_exprs.proofs.name_at.Reads as name-at-reads
+use Rattle.contract_lookup.proofs.name_at.Reads as name-at-reads
 use Rattle.lower_flow.proofs.terminate.next_arm.Reads as next-arm-reads
 use Rattle.lower_names.proofs.held.declare.Reads as declare-reads
 use Rattle.lower_names.proofs.held.hold.Reads as hold-reads

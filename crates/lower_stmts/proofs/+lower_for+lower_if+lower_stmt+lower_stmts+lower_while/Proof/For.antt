@@ -10,7 +10,7 @@ use Rattle.contract_nodes.specs.Ready.{stmtsFrom}
 use Rattle.contract_nodes.proofs.Children.{bounds, size-fits}
 use Rattle.contract_nodes.proofs.Stmts.{for-at}
 use Rattle.lower_flow.proofs.FlowSteps.{blocks-told}
-use Rattle.lower_stmts.proofs.StmtParts.{stop-is, ForParts, for-parts}
+use Rattle.contract_nodes.proofs.Parts.{stop-is, ForParts, for-parts}
 use Rattle.lower_stmts.proofs.StmtSteps.{Begun, forNames, for-opens, Bounded, bounded, not-bounded, Inside, entered, Within, within, for-within, Listed, listed, walked, leaves, not-made, not-walked, asked-cond, asked-list}
 use Rattle.lower_stmts.proofs.+lower_for+lower_if+lower_stmt+lower_stmts+lower_while.Proof.Base.{lower-for-at, R-lower-for}
 use Rattle.lower_stmts.proofs.+lower_for+lower_if+lower_stmt+lower_stmts+lower_while.Lts-lower_for as lts

@@ -11,8 +11,8 @@ use Rattle.contract_nodes.proofs.Children.{bounds, size-fits}
 use Rattle.contract_nodes.proofs.Stmts.{if-at}
 use Rattle.lower_flow.specs.Flows.{blocksOf}
 use Rattle.lower_flow.proofs.FlowSteps.{grown-still}
-use Rattle.lower_stmts.proofs.StmtParts.{stop-is, IfParts, if-parts, Arm}
-use Rattle.lower_stmts.proofs.StmtSteps.{Begun, elseArm, if-opens, Inside, entered, within, Listed, listed, walked, switched, leaves, not-made, not-walked, asked-cond, asked-arm}
+use Rattle.contract_nodes.proofs.Parts.{stop-is, IfParts, if-parts, Arm, arm-from}
+use Rattle.lower_stmts.proofs.StmtSteps.{Begun, arm-walks, elseArm, if-opens, Inside, entered, within, Listed, listed, walked, switched, leaves, not-made, not-walked, asked-cond, asked-arm}
 use Rattle.lower_stmts.proofs.+lower_for+lower_if+lower_stmt+lower_stmts+lower_while.Proof.Base.{lower-if-at, R-lower-if}
 use Rattle.lower_stmts.proofs.+lower_for+lower_if+lower_stmt+lower_stmts+lower_while.Lts-lower_if as lts
 use Rattle.lower_stmts.proofs.lower_if.Reads as lower-if
@@ -86,14 +86,14 @@ module _ (t : ℕ) where
       switched (first-arm (arm-of (c .before))) (c .before .next-arm .ensures) (elseArm (begun p) (parts p .arms) (blocksOf (m .made .given .0 .1 .0))) refl
 
   -- ITS SECOND ARM, present or not
-  arm : (c : At lts.Joined1) → let p = places (scopes-of c) in Arm (begun p .sheet) (c .if1 .from) (stop p) (start p .args .depth) (parts p .arms)
-  arm c = let g = parts (places (scopes-of c)) in ⊎-elim (λ w. rw (w .1) (g .some-else (w .0 .taken))) (λ w. rw (w .1) (g .no-else (w .0 .left))) (c .if1 .came)
+  arm : (c : At lts.Joined1) → let p = places (scopes-of c) in Arm (begun p .sheet) (block-end p) (c .if1 .from) (stop p) (start p .args .depth) (parts p .arms)
+  arm c = let g = parts (places (scopes-of c)) in ⊎-elim (λ w. arm-from (w .1) (g .some-else (w .0 .taken))) (λ w. arm-from (w .1) (g .no-else (w .0 .left))) (c .if1 .came)
 
   abbrev if-of : At lts.After-lower-stmts2 → At lts.Joined1
   if-of c = c .before .before .before
 
   abbrev second-list : (c : At lts.After-lower-stmts2) → Listed (begun (places (scopes-of (if-of c))))
-  second-list c = let j = if-of c in listed (next j) _ (within (scopes-of j .inside .ensures)) _ (c .lower-stmts2 .ensures) (sym (arm j .is _ _ _ _)) refl
+  second-list c = let j = if-of c in listed (next j) _ (within (scopes-of j .inside .ensures)) _ (c .lower-stmts2 .ensures) (sym (arm-walks (arm j) _ _ _ _)) refl
 
   abbrev both-arms : (c : At lts.After-arm2) → Inside (begun (places (scopes-of (if-of (c .before .before)))))
   both-arms c = walked (second-list (c .before .before)) (c .arm2 .given .1)

@@ -9,7 +9,7 @@ use Rattle.contract_nodes.specs.Ready.{stmtsFrom}
 use Rattle.contract_nodes.proofs.Children.{bounds, size-fits}
 use Rattle.contract_nodes.proofs.Stmts.{while-at}
 use Rattle.lower_flow.proofs.FlowSteps.{grown-still}
-use Rattle.lower_stmts.proofs.StmtParts.{stop-is, WhileParts, while-parts}
+use Rattle.contract_nodes.proofs.Parts.{stop-is, WhileParts, while-parts}
 use Rattle.lower_stmts.proofs.StmtSteps.{Begun, while-opens, Inside, entered, within, Listed, listed, walked, leaves, not-made, not-walked, asked-cond, asked-arm}
 use Rattle.lower_stmts.proofs.+lower_for+lower_if+lower_stmt+lower_stmts+lower_while.Proof.Base.{lower-while-at, R-lower-while}
 use Rattle.lower_stmts.proofs.+lower_for+lower_if+lower_stmt+lower_stmts+lower_while.Lts-lower_while as lts

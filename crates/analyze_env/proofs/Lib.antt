@@ -1,0 +1,2 @@
+mod Packed
+pub mod Chains

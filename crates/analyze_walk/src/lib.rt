@@ -1,0 +1,1 @@
+// The body check as the code does it: helper definitions and proofs; no code.
