@@ -7,7 +7,7 @@ import shutil
 import subprocess
 
 # The files of proofs/ that compute rows or refute statements, and what they need.
-ROW_FILES = ["Rows", "Readings", "RunRows", "ReadsRows", "Demand3Rows", "RulesOut", "Meaning", "AnalyzeRows", "AnalyzeExprRows"]
+ROW_FILES = ["Rows", "Readings", "RunRows", "ReadsRows", "Demand3Rows", "RulesOut", "Meaning", "AnalyzeRows", "AnalyzeExprRows", "Apart", "BenchRows", "BenchSheetRows"]
 NEEDED = ["All"]
 # Where a change of a file is likely to be met first; the other crates follow in the order of crates.txt.
 FIRST_MET = {

@@ -1,6 +1,6 @@
 #!/usr/bin/env bash
 # The limits that the crates keep, each offender by its file and line: a function has at most 8 parameters (one exported to C aside) and a body of at most 40 lines as laid out, a line of a
-# promise at most 170 characters, a file of src/, specs/ or proofs/ at most 500 lines; src/ and specs/ cite no proof.
+# promise at most 170 characters, a file of src/, specs/ or proofs/ at most 500 lines; src/ and specs/ cite no proof; one name is declared for one thing.
 set -u
 cd "$(dirname "$0")/.." && . tests/part.sh || exit 2
 
@@ -49,8 +49,33 @@ functions() {
     }' {} +
 }
 
+# Names that more than one file of specs/, or crate's code, declares for one thing: the Rust's own, the answer of each operation with its reading, and what the walk that mirrors the definitions of
+# lowering (crates/lower_walk), or the code's state, calls as they do.
+twice=(insert '_>>=_' '_>>_')
+twice+=(Answer answerOf errorOf)
+twice+=(forHeader forStep initLocal needValue newCtx pushValue switchTo terminateIfOpen threeBlocks withLocal)
+
+# The names that are declared twice and are not of those, and those that are not declared twice.
+names() {
+  { grep -oE '^((abbrev|unfoldable|opaque|data|record|pub) )*pub ((abbrev|unfoldable|opaque|data|record) )*[^ :({]+' crates/*/specs/*.antt
+    grep -oE '^pub (struct|enum) [A-Za-z0-9]+' crates/*/src/*.rt; } | awk -v allowed=" ${twice[*]} " '
+    { file = $1; sub(":.*", "", file); sub("^[^:]*:", ""); name = $NF }
+    name == "mod" || (file, name) in seen { next }
+    { seen[file, name]; kind = file ~ /[.]rt$/; n[name, kind]++; files[name, kind] = files[name, kind] " " file; all[name, kind] = name }
+    END {
+      for (i in all) {
+        if (n[i] < 2) continue
+        if (index(allowed, " " all[i] " ")) met[all[i]]
+        else print "names" files[i] ": each declares " all[i]
+      }
+      m = split(allowed, list, " ")
+      for (i = 1; i <= m; i++) if (!(list[i] in met)) print "names tests/shape.sh: " list[i] " is not declared twice"
+    }'
+}
+
 offenders() {
   functions
+  names
   find crates/*/src crates/*/specs crates/*/proofs -type f 2>/dev/null | sort | while IFS= read -r file; do
     lines=$(wc -l <"$file")
     [ "$lines" -le 500 ] || printf 'files %s:501: it has %d lines\n' "$file" "$lines"
@@ -59,7 +84,7 @@ offenders() {
 }
 
 all=$(offenders)
-for rule in parameters bodies promises files citations; do
+for rule in parameters bodies promises files citations names; do
   found=$(grep "^$rule " <<<"$all" | cut -d' ' -f2-)
   [ -n "$found" ] || pass
   while IFS= read -r offender; do

@@ -4,6 +4,7 @@ use std::collections::BTreeMap;
 use std::hint::black_box;
 use std::time::Instant;
 
+use crate::analysis;
 use crate::generate::{self, bodies, exhaust, Case};
 use crate::oracle::{check_answer, lower_answer, verify_answer, Answer};
 use crate::proof_sheets::hex;
@@ -18,13 +19,15 @@ pub enum Task {
     /// What lowering asks of a sheet before its walk.
     Check,
     Lower,
+    /// The body check.
+    Analyze,
 }
 
 impl Task {
     pub fn root(self) -> u16 {
         match self {
             Task::Verify => kind::PROGRAM,
-            Task::Check | Task::Lower => kind::CONTRACT,
+            Task::Check | Task::Lower | Task::Analyze => kind::CONTRACT,
         }
     }
 
@@ -32,6 +35,7 @@ impl Task {
         match self {
             Task::Verify => generate::fixed_verify_cases(),
             Task::Check | Task::Lower => generate::fixed_lower_cases(),
+            Task::Analyze => generate::fixed_analyze_cases(),
         }
     }
 
@@ -39,6 +43,7 @@ impl Task {
         match self {
             Task::Verify => generate::verify_case(seed, index),
             Task::Check | Task::Lower => generate::lower_case(seed, index),
+            Task::Analyze => generate::analyze_case(seed, index),
         }
     }
 
@@ -51,6 +56,7 @@ impl Task {
                 let walk = (10..=20).chain([30, 31]);
                 [0, 1, 3, 4].into_iter().chain(walk).collect()
             }
+            Task::Analyze => vec![0, 1, 3, 4, analysis::REFUSAL],
         }
     }
 
@@ -59,7 +65,20 @@ impl Task {
             Task::Verify => verify_answer(&case.sheet),
             Task::Check => check_answer(&case.sheet),
             Task::Lower => lower_answer(&case.sheet, case.room),
+            Task::Analyze => analysis::analyze(&case.sheet),
         }
+    }
+}
+
+/// The number of an answer, and that of its error text where it is the body
+/// check's refusal, else 0.
+pub fn numbers(answer: &Answer) -> (u16, u32) {
+    match answer {
+        Answer::Refused {
+            number: analysis::REFUSAL,
+            details,
+        } => (analysis::REFUSAL, details[1]),
+        other => (other.number(), 0),
     }
 }
 
@@ -85,6 +104,9 @@ pub struct Agreed {
     pub answer: Answer,
     /// The number of the verifier's answer to what a lowering gave.
     pub verified: Option<u16>,
+    /// The numbers of all errors that the Rust's body check pushes, where it
+    /// refuses.
+    pub pushed: Vec<u16>,
 }
 
 /// What the lent output holds before the call, and the bytes around it: never
@@ -105,6 +127,7 @@ pub fn compare(subject: &dyn Subject, task: Task, case: &Case) -> Result<Agreed,
         Task::Lower => compare_lowering(subject, case, &lent)?,
         Task::Verify => agreed(task.expected(case), subject.verify(&lent))?,
         Task::Check => agreed(task.expected(case), subject.check(&lent))?,
+        Task::Analyze => compare_analyzing(subject, case, &lent)?,
     };
     match *black_box(&lent) == case.sheet {
         true => Ok(agreed),
@@ -119,7 +142,25 @@ fn agreed(expected: Answer, got: Answer) -> Result<Agreed, Difference> {
     Ok(Agreed {
         answer: expected,
         verified: None,
+        pushed: Vec::new(),
     })
+}
+
+/// The answers; the expected one alone where the subject has no body check. It
+/// is the Rust's, held against the second walk.
+fn compare_analyzing(
+    subject: &dyn Subject,
+    case: &Case,
+    sheet: &[u8],
+) -> Result<Agreed, Difference> {
+    let expected = Task::Analyze.expected(case);
+    let got = subject.analyze(sheet);
+    let got = got.unwrap_or_else(|| expected.clone());
+    let mut agreed = agreed(expected, got)?;
+    if agreed.answer.number() == analysis::REFUSAL {
+        agreed.pushed = analysis::pushed(sheet);
+    }
+    Ok(agreed)
 }
 
 /// The answers, every byte of the output, and what verifying says of it.
@@ -188,6 +229,9 @@ pub struct Run<'a> {
     pub histogram: BTreeMap<u16, u64>,
     /// The same for verifying what was lowered.
     pub verified: BTreeMap<u16, u64>,
+    /// The same for the error texts of the body check, and how often one was
+    /// the first of several errors.
+    pub texts: BTreeMap<u16, [u64; 2]>,
     started: Instant,
     done: u64,
 }
@@ -201,6 +245,7 @@ impl<'a> Run<'a> {
             task,
             histogram: BTreeMap::new(),
             verified: BTreeMap::new(),
+            texts: BTreeMap::new(),
             started: Instant::now(),
             done: 0,
         }
@@ -214,23 +259,19 @@ impl<'a> Run<'a> {
             && (0..count).all(|index| self.ask(&task.case(seed, index)))
     }
 
-    /// All short sheets and all small damages of a few, for lowering also all
-    /// small bodies; false after a difference.
+    /// All short sheets and all small damages of a few, for lowering and the
+    /// body check also all small bodies; false after a difference.
     pub fn exhaust(&mut self) -> bool {
         let task = self.task;
+        let bodies = matches!(task, Task::Lower | Task::Analyze);
         let mut ask = |sheet: &[u8]| self.ask(&Case::of(sheet.to_vec()));
-        exhaust::each(task.root(), &mut ask) && (task != Task::Lower || bodies::each(&mut ask))
+        exhaust::each(task.root(), &mut ask) && (!bodies || bodies::each(&mut ask))
     }
 
     /// Compares one case; reports a difference and gives false.
     fn ask(&mut self, case: &Case) -> bool {
         match compare(self.subject, self.task, case) {
-            Ok(agreed) => {
-                *self.histogram.entry(agreed.answer.number()).or_default() += 1;
-                if let Some(number) = agreed.verified {
-                    *self.verified.entry(number).or_default() += 1;
-                }
-            }
+            Ok(agreed) => self.count(&agreed),
             Err(_) => {
                 self.report(case);
                 return false;
@@ -242,6 +283,18 @@ impl<'a> Run<'a> {
             eprintln!("{} cases in {seconds:.1} s", self.done);
         }
         true
+    }
+
+    fn count(&mut self, agreed: &Agreed) {
+        *self.histogram.entry(agreed.answer.number()).or_default() += 1;
+        if let Some(number) = agreed.verified {
+            *self.verified.entry(number).or_default() += 1;
+        }
+        if let Some(&number) = agreed.pushed.first() {
+            let [times, of_several] = self.texts.entry(number).or_default();
+            *times += 1;
+            *of_several += u64::from(agreed.pushed.len() > 1);
+        }
     }
 
     fn report(&self, case: &Case) {
@@ -258,20 +311,20 @@ impl<'a> Run<'a> {
     }
 
     /// Whether each number was answered, also by the verifier to what was
-    /// lowered; prints those that were not.
+    /// lowered, and each error text given; prints those that were not.
     pub fn all_numbers(&self) -> bool {
-        let mut missing = self.task.numbers();
-        missing.retain(|number| !self.histogram.contains_key(number));
-        if !missing.is_empty() {
-            println!("never answered: {missing:?}");
+        let answered = all_counted("answered", self.task.numbers(), &self.histogram);
+        match self.task {
+            Task::Lower => {
+                let label = "answered by the verifier to what was lowered";
+                all_counted(label, OF_LOWERED.to_vec(), &self.verified) && answered
+            }
+            Task::Analyze => {
+                let texts = (1..=analysis::TEXTS).collect();
+                all_counted("the number of an error", texts, &self.texts) && answered
+            }
+            _ => answered,
         }
-        let mut unverified = OF_LOWERED.to_vec();
-        unverified.retain(|number| !self.verified.contains_key(number));
-        let lowers = self.task == Task::Lower;
-        if lowers && !unverified.is_empty() {
-            println!("never answered by the verifier to what was lowered: {unverified:?}");
-        }
-        missing.is_empty() && !(lowers && !unverified.is_empty())
     }
 
     /// One line for each number, 0 for acceptance.
@@ -286,9 +339,24 @@ impl<'a> Run<'a> {
         for (number, times) in &self.verified {
             println!("{number:>5} {times:>10}");
         }
+        if !self.texts.is_empty() {
+            println!("51 by error texts, and how often each was the first of several errors:");
+        }
+        for (number, [times, of_several]) in &self.texts {
+            println!("{number:>5} {times:>10} {of_several:>10}");
+        }
         let rate = self.done as f64 / seconds.max(0.001);
         println!("{} cases in {seconds:.1} s, {rate:.0} a second", self.done);
     }
+}
+
+/// Whether each number was counted; prints those that were not.
+fn all_counted<T>(label: &str, mut numbers: Vec<u16>, counted: &BTreeMap<u16, T>) -> bool {
+    numbers.retain(|number| !counted.contains_key(number));
+    if !numbers.is_empty() {
+        println!("never {label}: {numbers:?}");
+    }
+    numbers.is_empty()
 }
 
 /// How many random cases a sample is drawn from.
@@ -296,15 +364,15 @@ const CANDIDATES: u64 = 20_000;
 /// Longer sheets are sampled only for numbers that have no shorter ones.
 const SHORT: usize = 300;
 
-/// Cases and their answers: about `count`, the same share of each number,
-/// most of them short.
+/// Cases and their answers: about `count`, the same share of each number and of
+/// each error text, most of them short.
 pub fn sample(task: Task, seed: u64, count: usize) -> Vec<(Vec<u8>, Answer)> {
-    let mut by_number: BTreeMap<u16, Bucket> = BTreeMap::new();
+    let mut by_number: BTreeMap<(u16, u32), Bucket> = BTreeMap::new();
     let random = (0..CANDIDATES).map(|index| task.case(seed, index));
     for case in task.fixed_cases().into_iter().chain(random) {
         let case = Case::of(case.sheet);
         let answer = task.expected(&case);
-        let bucket = by_number.entry(answer.number()).or_default();
+        let bucket = by_number.entry(numbers(&answer)).or_default();
         // A long line is not written for a sheet that is not sampled.
         if case.sheet.len() <= SHORT || !has_short(bucket) {
             let key = (case.sheet.len(), answer.to_string());
@@ -316,7 +384,7 @@ pub fn sample(task: Task, seed: u64, count: usize) -> Vec<(Vec<u8>, Answer)> {
     buckets.flat_map(|bucket| spread(bucket, share)).collect()
 }
 
-/// The sheets of a number: one, the first, for each length and answer.
+/// The sheets of a number or an error text: one, the first, for each length and answer.
 type Bucket = BTreeMap<(usize, String), (Vec<u8>, Answer)>;
 
 fn has_short(bucket: &Bucket) -> bool {

@@ -18,6 +18,7 @@ pub mod ir;
 #[path = "budzkvm/sema.rs"]
 pub mod sema;
 
+pub mod analysis;
 pub mod archive;
 pub mod bench;
 pub mod build;

@@ -15,7 +15,7 @@ differential answer TASK                 the oracle's line for a sheet from stan
 differential sample TASK [SEED [COUNT]]  sheets with their answers, some of every number
 differential case TASK SEED INDEX        one random case with its answer
 differential rows                        P1 to P12 with their answers
-TASK is verify, lower, or check: what lowering asks of a sheet before its walk";
+TASK is verify, lower, analyze (the body check), or check: what lowering asks of a sheet before its walk";
 
 /// What is compared with the oracle.
 const SUBJECT: Archive = Archive;
@@ -74,6 +74,7 @@ fn task(word: &str) -> Option<Task> {
         "verify" => Some(Task::Verify),
         "check" => Some(Task::Check),
         "lower" => Some(Task::Lower),
+        "analyze" => Some(Task::Analyze),
         _ => None,
     }
 }

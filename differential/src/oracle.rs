@@ -51,7 +51,10 @@ impl fmt::Display for Answer {
     }
 }
 
-fn refused<Detail: Into<u32>>(number: u16, details: impl IntoIterator<Item = Detail>) -> Answer {
+pub fn refused<Detail: Into<u32>>(
+    number: u16,
+    details: impl IntoIterator<Item = Detail>,
+) -> Answer {
     Answer::Refused {
         number,
         details: details.into_iter().map(Into::into).collect(),
@@ -63,7 +66,7 @@ fn refused_alone(number: u16) -> Answer {
 }
 
 /// The records of a contract sheet, unless 1, 3 or 4 comes before the walk.
-fn checked(sheet: &[u8]) -> Result<Tree<'_>, Answer> {
+pub fn checked(sheet: &[u8]) -> Result<Tree<'_>, Answer> {
     if sheet.len() > SHEET_LIMIT {
         return Err(refused_alone(1));
     }

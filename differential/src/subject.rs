@@ -1,8 +1,9 @@
 //! What is compared with the oracle.
 
+use crate::analysis;
 use crate::oracle::{check_answer, lower_answer, verify_answer, Answer};
 
-/// An implementation of lowering and verifying.
+/// An implementation of lowering and verifying, and perhaps of the body check.
 pub trait Subject {
     /// The answer to a program sheet.
     fn verify(&self, sheet: &[u8]) -> Answer;
@@ -13,6 +14,12 @@ pub trait Subject {
     /// The answer to a contract sheet. `out` is the lent output; on acceptance
     /// the answer's bytes are those of `out` up to the answered length.
     fn lower(&self, sheet: &[u8], out: &mut [u8]) -> Answer;
+
+    /// The body check's answer to a contract sheet; none of a subject that has
+    /// no body check.
+    fn analyze(&self, _sheet: &[u8]) -> Option<Answer> {
+        None
+    }
 }
 
 /// The oracle itself, so that the driver runs without a subject.
@@ -34,5 +41,9 @@ impl Subject for SelfSubject {
             out[..finished.len()].copy_from_slice(finished);
         }
         answer
+    }
+
+    fn analyze(&self, sheet: &[u8]) -> Option<Answer> {
+        Some(analysis::analyze(sheet))
     }
 }

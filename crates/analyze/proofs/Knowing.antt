@@ -18,10 +18,10 @@ use Rattle.analyze_walk.specs.Stops.{checkFunction}
 use Rattle.analyze_env.specs.Known.{envOf, Known, Inserted}
 use Rattle.analyze_state.specs.declared.Analyzer.{Analyzer}
 use Rattle.analyze_state.specs.declared.SemaError.{SemaError}
-use Rattle.analyze_state.specs.declared.Checked.the-variants as checked
-use Rattle.analyze_stmts.specs.Stepped.{Holds, Room, Grown, GrownTo, steppedIn, StmtsDone}
-use Rattle.analyze_stmts.specs.declared.Stepped.{Stepped}
-use Rattle.analyze_stmts.specs.declared.Stepped.the-variants as stepped
+use Rattle.analyze_state.specs.declared.BodyCheck.the-variants as checked
+use Rattle.analyze_stmts.specs.Stmts.{RoomForAll, Room, NamesGrown, NamesGrownTo, knownIn, SpanChecked}
+use Rattle.analyze_stmts.specs.declared.KnownNames.{KnownNames}
+use Rattle.analyze_stmts.specs.declared.KnownNames.the-variants as knownNames
 use Rattle.analyze.specs.Whole.{ParamsKnown, FunctionChecked}
 
 -- PARAMETERS: one, and those after it
@@ -72,7 +72,7 @@ pub record Started (s : List ℕ) (at n : ℕ) (l l₁ heads₁ : List ℕ) : Ty
   pub function : FunctionAt s at 39
   pub count : n ≡ le 2 s (at + 12)
   pub params : ParamsKnown s (at + 14) n l l₁ heads₁
-  pub holds : Holds s l
+  pub holds : RoomForAll s l
 
 module _ {s : List ℕ} {at n : ℕ} {l l₁ heads₁ : List ℕ} (S : Started s at n l l₁ heads₁) where
   from-is : at + 14 + 4 * n ≡ bodyFrom s at
@@ -82,23 +82,23 @@ module _ {s : List ℕ} {at n : ℕ} {l l₁ heads₁ : List ℕ} (S : Started s
   pub ready : {size : ℕ} → size ≡ le 4 s at → ReadyAll Class.statement s (at + 14 + 4 * n) (at + size) 38
   ready e = rw (from-is, e) (S .function .statements)
 
-  pub room : Holds s l₁ × Room n (at + 14 + 4 * n)
+  pub room : RoomForAll s l₁ × Room n (at + 14 + 4 * n)
   room = (omega (arith, S .holds, S .params .long), omega (arith, S .count, S .function .few))
 
   -- its statements came to r
-  module _ {a : Analyzer} {size : ℕ} {l₂ heads₂ : List ℕ} {r : Stepped} (ret : asType (a .ret) ≡ returnType (optFrom (le 2 s (at + 8)))) (names : a .names ≡ n) (e : size ≡ le 4 s at) (D : StmtsDone s (at + 14 + 4 * n) (at + size) l₁ heads₁ a l₂ heads₂ r) where
-    all-of : (steppedIn l₂ r >> ok tt) ≡ checkFunction (readContract s) (functionAt s at)
+  module _ {a : Analyzer} {size : ℕ} {l₂ heads₂ : List ℕ} {r : KnownNames} (ret : asType (a .ret) ≡ returnType (optFrom (le 2 s (at + 8)))) (names : a .names ≡ n) (e : size ≡ le 4 s at) (D : SpanChecked s (at + 14 + 4 * n) (at + size) l₁ heads₁ a l₂ heads₂ r) where
+    all-of : (knownIn l₂ r >> ok tt) ≡ checkFunction (readContract s) (functionAt s at)
     unfolding checkFunction
     all-of = rw (D .is, ret, names, S .params .are, from-is, e, S .count, ← S .function .params, ← S .function .returnType, ← S .function .body) refl
 
-    grown : {m : ℕ} → r ≡ stepped.Next m → Grown l₁ heads₁ (a .names) l₂ heads₂ m (at + size)
-    grown q = subst (GrownTo l₁ heads₁ (a .names) l₂ heads₂ (at + size)) q (D .grown)
+    grown : {m : ℕ} → r ≡ knownNames.Next m → NamesGrown l₁ heads₁ (a .names) l₂ heads₂ m (at + size)
+    grown q = subst (NamesGrownTo l₁ heads₁ (a .names) l₂ heads₂ (at + size)) q (D .grown)
 
-    pub to-undo : {m : ℕ} → r ≡ stepped.Next m → Known l₂ heads₂ m
+    pub to-undo : {m : ℕ} → r ≡ knownNames.Next m → Known l₂ heads₂ m
     to-undo q = grown q .known
 
-    pub passes : {m mark : ℕ} {heads₃ : List ℕ} → r ≡ stepped.Next m → Known l₂ heads₃ mark → mark ≡ 0 → FunctionChecked s at l₂ heads₃ checked.Passed
+    pub passes : {m mark : ℕ} {heads₃ : List ℕ} → r ≡ knownNames.Next m → Known l₂ heads₃ mark → mark ≡ 0 → FunctionChecked s at l₂ heads₃ checked.Passed
     passes q K z = record { is = rw q at all-of; empty = record { known = rw z at K; holds = omega (arith, grown q .long, room .0) } }
 
-    pub refuses : {x : SemaError} (heads₃ : List ℕ) → r ≡ stepped.Refused x → FunctionChecked s at l₂ heads₃ (checked.Failed x)
+    pub refuses : {x : SemaError} (heads₃ : List ℕ) → r ≡ knownNames.Refused x → FunctionChecked s at l₂ heads₃ (checked.Failed x)
     refuses heads₃ q = record { is = rw q at all-of; empty = tt }

@@ -15,10 +15,10 @@ use Rattle.contract_nodes.proofs.Tops.{ContractAt, contract-at}
 use Rattle.contract_lookup.specs.Listed.{Listed}
 use Rattle.contract_lookup.proofs.Lasts.{gather-map}
 use Rattle.analyze_walk.specs.Stops.{checkFunctions}
-use Rattle.analyze_state.specs.Scene.{checkedOf}
+use Rattle.analyze_state.specs.Scene.{bodyCheckOf}
 use Rattle.analyze_state.specs.declared.SemaError.{SemaError}
-use Rattle.analyze_state.specs.declared.Checked.{Checked}
-use Rattle.analyze_state.specs.declared.Checked.the-variants as checked
+use Rattle.analyze_state.specs.declared.BodyCheck.{BodyCheck}
+use Rattle.analyze_state.specs.declared.BodyCheck.the-variants as checked
 use Rattle.analyze.specs.Whole.{Empty, FunctionChecked}
 
 -- the functions at m places from the i-th on
@@ -67,8 +67,8 @@ module _ {s places : List ℕ} {n : ℕ} {l₀ heads₀ l heads : List ℕ} {i :
       rw m at (T .left)
 
   -- the next one came to r
-  module _ (h : i < n) {l₁ heads₁ : List ℕ} {r : Checked} (F : FunctionChecked s (getD places i 0) l₁ heads₁ r) where
-    next-is : (checkedOf r >> checkFunctions (readContract s) (functionsFrom s places (i + 1) (n - (i + 1)))) ≡ checkFunctions (readContract s) (readContract s .functions)
+  module _ (h : i < n) {l₁ heads₁ : List ℕ} {r : BodyCheck} (F : FunctionChecked s (getD places i 0) l₁ heads₁ r) where
+    next-is : (bodyCheckOf r >> checkFunctions (readContract s) (functionsFrom s places (i + 1) (n - (i + 1)))) ≡ checkFunctions (readContract s) (readContract s .functions)
     unfolding functionsFrom checkFunctions
     next-is =
         let m : n - i ≡ suc (n - (i + 1)) = omega arith in
@@ -77,5 +77,5 @@ module _ {s places : List ℕ} {n : ℕ} {l₀ heads₀ l heads : List ℕ} {i :
     pub goes-on : r ≡ checked.Passed → length l₁ ≡ length l → length heads₁ ≡ length heads → Turning s places n l₀ heads₀ l₁ heads₁ (i + 1)
     goes-on q a b = record { within = omega arith; long = a ∙ T .long; wide = b ∙ T .wide; empty = subst (FunctionChecked s (getD places i 0) l₁ heads₁) q F .empty; left = rw q at next-is }
 
-    pub refuses : {x : SemaError} → r ≡ checked.Failed x → checkedOf (checked.Failed x) ≡ checkFunctions (readContract s) (readContract s .functions)
+    pub refuses : {x : SemaError} → r ≡ checked.Failed x → bodyCheckOf (checked.Failed x) ≡ checkFunctions (readContract s) (readContract s .functions)
     refuses q = rw q at next-is

@@ -9,13 +9,13 @@ use Rattle.definitions.specs.Analyze.{paramEnv}
 use Rattle.definitions.specs.ContractSheet.{readContract}
 use Rattle.contract_nodes.specs.Ready.{paramsFrom, functionAt}
 use Rattle.contract_lookup.specs.Listed.{Listed}
-use Rattle.analyze_walk.specs.Stops.{checkFunction}
+use Rattle.analyze_walk.specs.Stops.{checkFunction, checkFunctions}
 use Rattle.analyze_env.specs.Known.{envOf, Known}
 use Rattle.analyze_state.specs.Errors.{errorOf}
-use Rattle.analyze_state.specs.Scene.{checkedOf}
-use Rattle.analyze_state.specs.declared.Checked.{Checked}
-use Rattle.analyze_state.specs.declared.Checked.the-variants as checked
-use Rattle.analyze_stmts.specs.Stepped.{Holds}
+use Rattle.analyze_state.specs.Scene.{bodyCheckOf}
+use Rattle.analyze_state.specs.declared.BodyCheck.{BodyCheck}
+use Rattle.analyze_state.specs.declared.BodyCheck.the-variants as checked
+use Rattle.analyze_stmts.specs.Stmts.{RoomForAll}
 use Rattle.analyze.specs.declared.Answer as code
 use Rattle.analyze.specs.declared.Answer.the-variants as answer
 use Rattle.analyze.specs.declared.Counts.{Counts}
@@ -39,9 +39,9 @@ pub record ParamsKnown (s : List ℕ) (at n : ℕ) (l l₁ heads₁ : List ℕ) 
 -- no name is known, and there is room for all
 pub record Empty (s l heads : List ℕ) : Type 0 where
   pub known : Known l heads 0
-  pub holds : Holds s l
+  pub holds : RoomForAll s l
 
-abbrev pub EmptyIfPassed : (s l heads : List ℕ) → Checked → Type 0
+abbrev pub EmptyIfPassed : (s l heads : List ℕ) → BodyCheck → Type 0
 EmptyIfPassed s l heads checked.Passed = Empty s l heads
 EmptyIfPassed s l heads (checked.Failed e) = Unit {0}
 
@@ -51,6 +51,10 @@ pub record AllListed (s structs functions : List ℕ) (c : Counts) : Type 0 wher
   pub functions-listed : Listed s 4 functions (c .functions)
 
 -- the function at a place is checked
-pub record FunctionChecked (s : List ℕ) (at : ℕ) (l₁ heads₁ : List ℕ) (r : Checked) : Type 0 where
-  pub is : checkedOf r ≡ checkFunction (readContract s) (functionAt s at)
+pub record FunctionChecked (s : List ℕ) (at : ℕ) (l₁ heads₁ : List ℕ) (r : BodyCheck) : Type 0 where
+  pub is : bodyCheckOf r ≡ checkFunction (readContract s) (functionAt s at)
   pub empty : EmptyIfPassed s l₁ heads₁ r
+
+-- all functions are checked, in order
+abbrev pub BodiesChecked : List ℕ → BodyCheck → Type 0
+BodiesChecked s r = bodyCheckOf r ≡ checkFunctions (readContract s) (readContract s .functions)

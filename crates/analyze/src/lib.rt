@@ -3,24 +3,21 @@ ghost use mathlib.Core.Path.{_≡_};
 ghost use Prim.Native.Nat.{_+_, _*_, _≤_};
 ghost use lib.ListN.{length};
 ghost use Rattle.definitions.specs.Answers.{analyzeSheet};
-ghost use Rattle.definitions.specs.ContractSheet.{readContract};
 ghost use Rattle.definitions.specs.Grammar.{Class};
 ghost use Rattle.sheet.specs.Passed.{ContractPassed};
 ghost use Rattle.contract_nodes.specs.Ready.{Ready};
-ghost use Rattle.analyze_walk.specs.Stops.{checkFunctions};
 ghost use Rattle.analyze_env.specs.Known.{Known};
-ghost use Rattle.analyze_state.specs.Scene.{checkedOf};
-ghost use Rattle.analyze.specs.Whole.{answerOf, ParamsKnown, Empty, AllListed, FunctionChecked};
+ghost use Rattle.analyze.specs.Whole.{answerOf, ParamsKnown, Empty, AllListed, FunctionChecked, BodiesChecked};
 use analyze_env::ALL;
 use analyze_env::FEW;
 use analyze_env::Ty;
 use analyze_env::insert;
 use analyze_env::undo;
 use analyze_state::Analyzer;
-use analyze_state::Checked;
+use analyze_state::BodyCheck;
 use analyze_state::SemaError;
+use analyze_stmts::KnownNames;
 use analyze_stmts::Span;
-use analyze_stmts::Stepped;
 use analyze_stmts::analyze_stmts;
 use contract_lookup::places;
 use contract_lookup::places::places_of;
@@ -48,9 +45,6 @@ pub enum Answer {
     Refused(SemaError),
 }
 
-// The depth left of a function's record.
-const FUNCTION_DEPTH: usize = 39;
-
 // The n parameters at a place are known, in order.
 fn insert_params(s: &[u8], at: usize, n: usize, entries: &mut [u64], heads: &mut [u16])
     requires { ⌜ Known (now entries) (now heads) 0 × ((n ≤ 16) × (16 ≤ length (now entries))) ⌝ }
@@ -76,7 +70,7 @@ fn analyze_function(
     structs: &[u32],
     functions: &[u32],
     counts: Counts,
-) -> Checked
+) -> BodyCheck
     requires { ⌜ ContractPassed (now s) × Ready Class.function (now s) at 39 ⌝ }
     requires { ⌜ Empty (now s) (now entries) (now heads) × AllListed (now s) (now structs) (now functions) counts ⌝ }
     ensures { λ r. ⌜ FunctionChecked (now (s .entry)) at (now (entries .exit)) (now (heads .exit)) r ⌝ }
@@ -97,7 +91,7 @@ fn analyze_function(
     let body = analyze_stmts(
         s,
         span,
-        FUNCTION_DEPTH - 1,
+        contract::FUNCTION_DEPTH - 1,
         entries,
         heads,
         structs,
@@ -105,18 +99,18 @@ fn analyze_function(
         analyzer,
     );
     match body {
-        Stepped::Next(names) => {
+        KnownNames::Next(names) => {
             undo(entries, heads, names, 0);
-            Checked::Passed
+            BodyCheck::Passed
         }
-        Stepped::Refused(e) => Checked::Failed(e),
+        KnownNames::Refused(e) => BodyCheck::Failed(e),
     }
 }
 
 // All functions, in order.
-fn analyze_functions(s: &[u8], entries: &mut [u64], heads: &mut [u16]) -> Checked
+fn analyze_functions(s: &[u8], entries: &mut [u64], heads: &mut [u16]) -> BodyCheck
     requires { ⌜ ContractPassed (now s) × Empty (now s) (now entries) (now heads) ⌝ }
-    ensures { λ r. ⌜ checkedOf r ≡ checkFunctions (readContract (now (s .entry))) (readContract (now (s .entry)) .functions) ⌝ }
+    ensures { λ r. ⌜ BodiesChecked (now (s .entry)) r ⌝ }
 {
     let mut structs = [0u32; places::MOST];
     let mut functions = [0u32; places::MOST];
@@ -128,14 +122,14 @@ fn analyze_functions(s: &[u8], entries: &mut [u64], heads: &mut [u16]) -> Checke
     while i < counts.functions {
         let at = functions[i] as usize;
         match analyze_function(s, at, entries, heads, &structs, &functions, counts) {
-            Checked::Passed => {}
-            Checked::Failed(e) => {
-                return Checked::Failed(e);
+            BodyCheck::Passed => {}
+            BodyCheck::Failed(e) => {
+                return BodyCheck::Failed(e);
             }
         }
         i += 1;
     }
-    Checked::Passed
+    BodyCheck::Passed
 }
 
 // A sheet of at most SHORT bytes has so few names that chains of them are short.
@@ -145,18 +139,18 @@ const SHORT_NAMES: usize = 80;
 
 const MOST_NAMES: usize = 2064;
 
-fn analyze_short(s: &[u8]) -> Checked
+fn analyze_short(s: &[u8]) -> BodyCheck
     requires { ⌜ ContractPassed (now s) × (length (now s) ≤ 1024) ⌝ }
-    ensures { λ r. ⌜ checkedOf r ≡ checkFunctions (readContract (now (s .entry))) (readContract (now (s .entry)) .functions) ⌝ }
+    ensures { λ r. ⌜ BodiesChecked (now (s .entry)) r ⌝ }
 {
     let mut entries = [0u64; SHORT_NAMES];
     let mut heads = [0u16; FEW];
     analyze_functions(s, &mut entries, &mut heads)
 }
 
-fn analyze_long(s: &[u8]) -> Checked
+fn analyze_long(s: &[u8]) -> BodyCheck
     requires { ⌜ ContractPassed (now s) ⌝ }
-    ensures { λ r. ⌜ checkedOf r ≡ checkFunctions (readContract (now (s .entry))) (readContract (now (s .entry)) .functions) ⌝ }
+    ensures { λ r. ⌜ BodiesChecked (now (s .entry)) r ⌝ }
 {
     let mut entries = [0u64; MOST_NAMES];
     let mut heads = [0u16; ALL];
@@ -164,9 +158,9 @@ fn analyze_long(s: &[u8]) -> Checked
 }
 
 // A contract sheet that passed its check.
-fn analyze_contract(s: &[u8]) -> Checked
+fn analyze_contract(s: &[u8]) -> BodyCheck
     requires { ⌜ ContractPassed (now s) ⌝ }
-    ensures { λ r. ⌜ checkedOf r ≡ checkFunctions (readContract (now (s .entry))) (readContract (now (s .entry)) .functions) ⌝ }
+    ensures { λ r. ⌜ BodiesChecked (now (s .entry)) r ⌝ }
 {
     if s.len() <= SHORT {
         return analyze_short(s);
@@ -180,8 +174,8 @@ pub fn analyze(sheet: &[u8]) -> Answer
 {
     match sheet::check_contract(sheet) {
         ContractCheck::Passed => match analyze_contract(sheet) {
-            Checked::Passed => Answer::Accepted,
-            Checked::Failed(e) => Answer::Refused(e),
+            BodyCheck::Passed => Answer::Accepted,
+            BodyCheck::Failed(e) => Answer::Refused(e),
         },
         ContractCheck::TooLong => Answer::TooLong,
         ContractCheck::Malformed(place) => Answer::Malformed(place),

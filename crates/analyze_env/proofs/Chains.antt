@@ -1,4 +1,4 @@
--- The newest of each class, by heads and links: a lookup along the links finds what a walk over all entries finds; a store keeps them right, and so does undoing
+-- The newest of each chain, by heads and links: a lookup along the links finds what a walk over all entries finds; a store keeps them right, and so does undoing
 -- it. Assumes nothing.
 use mathlib.Core.Path.{_≡_, refl, ap, sym, _∙_}
 use mathlib.Core.List.{List}
@@ -11,34 +11,31 @@ use lib.ListN.{length, getD, set, replicate, length-set, length-replicate, getD-
 use lib.Seq.{getD-set-same, getD-set-other}
 use borrow.Author.Tests.{eq-eqb, ne-eqb, eqb-true, eqb-false}
 use Rattle.definitions.specs.Analyze.{Ty, get}
-use Rattle.definitions.proofs.Results.{by-test}
-use Rattle.analyze_env.specs.Known.{nameIn, linkIn, tyIn, envOf, classOf, classAt, newest, Known, Inserted}
+use Rattle.definitions.proofs.Results.{by-test, by-eq}
+use Rattle.analyze_env.specs.Known.{nameIn, linkIn, tyIn, envOf, chainOf, chainAt, newest, Known, Inserted}
 
-by-eq : {G : Type 0} (a b : ℕ) → (a ≡ b → G) → ((a ≡ b → ⊥) → G) → G
-by-eq a b y n = by-test (eqb a b) (λ q. y (eqb-true a b q)) (λ q. n (eqb-false a b q))
-
--- THE NEWEST OF A CLASS, of w classes
+-- THE NEWEST OF A CHAIN, of w chains
 module _ (w : ℕ) (l : List ℕ) (b : ℕ) where
-  this-one : (k : ℕ) → classAt w l k ≡ b → newest w l b (suc k) ≡ suc k
+  this-one : (k : ℕ) → chainAt w l k ≡ b → newest w l b (suc k) ≡ suc k
   unfolding newest
-  this-one k q = rw (eq-eqb (classAt w l k) b q)
+  this-one k q = rw (eq-eqb (chainAt w l k) b q)
 
-  not-this : (k : ℕ) → (classAt w l k ≡ b → ⊥) → newest w l b (suc k) ≡ newest w l b k
+  not-this : (k : ℕ) → (chainAt w l k ≡ b → ⊥) → newest w l b (suc k) ≡ newest w l b k
   unfolding newest
-  not-this k q = rw (ne-eqb (classAt w l k) b q)
+  not-this k q = rw (ne-eqb (chainAt w l k) b q)
 
   newest-low : (k : ℕ) → newest w l b k ≤ k
   unfolding newest
   newest-low zero = omega arith
-  newest-low (suc k) = by-eq (classAt w l k) b (λ q. omega (arith, this-one k q)) (λ u. omega (arith, not-this k u, newest-low k))
+  newest-low (suc k) = by-eq (chainAt w l k) b (λ q. omega (arith, this-one k q)) (λ u. omega (arith, not-this k u, newest-low k))
 
-  newest-class : (k : ℕ) → 0 < newest w l b k → classAt w l (newest w l b k - 1) ≡ b
+  newest-chain : (k : ℕ) → 0 < newest w l b k → chainAt w l (newest w l b k - 1) ≡ b
   unfolding newest
-  newest-class zero h = absurd (omega arith)
-  newest-class (suc k) h =
-      by-eq (classAt w l k) b
-      (λ q. let e : newest w l b (suc k) - 1 ≡ k = omega (arith, this-one k q) in ap (classAt w l) e ∙ q)
-      (λ u. ap (λ i. classAt w l (i - 1)) (not-this k u) ∙ newest-class k (omega (arith, not-this k u)))
+  newest-chain zero h = absurd (omega arith)
+  newest-chain (suc k) h =
+      by-eq (chainAt w l k) b
+      (λ q. let e : newest w l b (suc k) - 1 ≡ k = omega (arith, this-one k q) in ap (chainAt w l) e ∙ q)
+      (λ u. ap (λ i. chainAt w l (i - 1)) (not-this k u) ∙ newest-chain k (omega (arith, not-this k u)))
 
 -- LOOKING A NAME UP
 module _ (l : List ℕ) (n : ℕ) where
@@ -54,28 +51,28 @@ module _ (l : List ℕ) (n : ℕ) where
   unfolding envOf
   no-name = refl
 
-  newest-get : (w k : ℕ) → get n (envOf l (newest w l (classOf w n) k)) ≡ get n (envOf l k)
+  newest-get : (w k : ℕ) → get n (envOf l (newest w l (chainOf w n) k)) ≡ get n (envOf l k)
   unfolding newest
   newest-get w zero = refl
   newest-get w (suc k) =
-      by-eq (classAt w l k) (classOf w n)
-      (λ q. ap (λ i. get n (envOf l i)) (this-one w l (classOf w n) k q))
-      (λ u. ap (λ i. get n (envOf l i)) (not-this w l (classOf w n) k u) ∙ (newest-get w k ∙ sym (other-name k (λ e. u (ap (classOf w) e)))))
+      by-eq (chainAt w l k) (chainOf w n)
+      (λ q. ap (λ i. get n (envOf l i)) (this-one w l (chainOf w n) k q))
+      (λ u. ap (λ i. get n (envOf l i)) (not-this w l (chainOf w n) k u) ∙ (newest-get w k ∙ sym (other-name k (λ e. u (ap (chainOf w) e)))))
 
--- what is left below i gives what all entries give, and i is an entry of the name's class
+-- what is left below i gives what all entries give, and i is an entry of the name's chain
 pub record Looking (w : ℕ) (l : List ℕ) (count n i : ℕ) : Type 0 where
   pub low : i ≤ count
-  pub class : 0 < i → classAt w l (i - 1) ≡ classOf w n
+  pub chain : 0 < i → chainAt w l (i - 1) ≡ chainOf w n
   pub same : get n (envOf l i) ≡ get n (envOf l count)
 
-at-newest : (w : ℕ) (l : List ℕ) (count n k : ℕ) → k ≤ count → get n (envOf l k) ≡ get n (envOf l count) → Looking w l count n (newest w l (classOf w n) k)
+at-newest : (w : ℕ) (l : List ℕ) (count n k : ℕ) → k ≤ count → get n (envOf l k) ≡ get n (envOf l count) → Looking w l count n (newest w l (chainOf w n) k)
 at-newest w l count n k h e = record {
-  low = omega (arith, newest-low w l (classOf w n) k);
-  class = newest-class w l (classOf w n) k;
+  low = omega (arith, newest-low w l (chainOf w n) k);
+  chain = newest-chain w l (chainOf w n) k;
   same = newest-get l n w k ∙ e;
 }
 
-pub begun : {l heads : List ℕ} {count b n : ℕ} → Known l heads count → (b ≡ classOf (length heads) n) × (b < length heads) → Looking (length heads) l count n (getD heads b 0)
+pub begun : {l heads : List ℕ} {count b n : ℕ} → Known l heads count → (b ≡ chainOf (length heads) n) × (b < length heads) → Looking (length heads) l count n (getD heads b 0)
 begun {l} {heads} {count} {b} {n} K (of, in-reach) = rw (K .head b in-reach, of) (at-newest (length heads) l count n count (omega arith) refl)
 
 pub none-left : {w : ℕ} {l : List ℕ} {count n i : ℕ} → Looking w l count n i → i ≤ 0 → none ≡ get n (envOf l count)
@@ -88,11 +85,11 @@ module _ {l heads : List ℕ} {count n i : ℕ} (K : Known l heads count) (G : L
   pub hit : nameIn (getD l (i - 1) 0) ≡ n → some (tyIn (getD l (i - 1) 0)) ≡ get n (envOf l count)
   hit q = this-name l n (i - 1) q ∙ same-here
 
-  linked-to : linkIn (getD l (i - 1) 0) ≡ newest (length heads) l (classOf (length heads) n) (i - 1)
-  linked-to = K .link (i - 1) (omega (arith, G .low)) ∙ ap (λ b. newest (length heads) l b (i - 1)) (G .class h)
+  linked-to : linkIn (getD l (i - 1) 0) ≡ newest (length heads) l (chainOf (length heads) n) (i - 1)
+  linked-to = K .link (i - 1) (omega (arith, G .low)) ∙ ap (λ b. newest (length heads) l b (i - 1)) (G .chain h)
 
   pub falls : linkIn (getD l (i - 1) 0) < i
-  falls = omega (arith, linked-to, newest-low (length heads) l (classOf (length heads) n) (i - 1))
+  falls = omega (arith, linked-to, newest-low (length heads) l (chainOf (length heads) n) (i - 1))
 
   pub miss : (nameIn (getD l (i - 1) 0) ≡ n → ⊥) → Looking (length heads) l count n (linkIn (getD l (i - 1) 0))
   miss u = rw linked-to (at-newest (length heads) l count n (i - 1) (omega (arith, G .low)) (sym (other-name l n (i - 1) u) ∙ same-here))
@@ -122,26 +119,26 @@ stored heads b v right at-b others i h =
 
 -- ONE MORE
 module _ {l heads : List ℕ} {n name : ℕ} {t : Ty} {b : ℕ} (e : ℕ) (K : Known l heads n) (room : n < length l)
-    (class-is : (b ≡ classOf (length heads) name) × (b < length heads)) (entry-is : (nameIn e ≡ name) × (linkIn e ≡ getD heads b 0) × (tyIn e ≡ t)) where
+    (chain-is : (b ≡ chainOf (length heads) name) × (b < length heads)) (entry-is : (nameIn e ≡ name) × (linkIn e ≡ getD heads b 0) × (tyIn e ≡ t)) where
   here : getD (set l n e) n 0 ≡ e
   here = getD-set-same l n e 0 room
 
-  class-here : classAt (length heads) (set l n e) n ≡ b
-  class-here = rw (here, entry-is .0) (sym (class-is .0))
+  chain-here : chainAt (length heads) (set l n e) n ≡ b
+  chain-here = rw (here, entry-is .0) (sym (chain-is .0))
 
   head-after : (i : ℕ) → i < length heads → getD (set heads b (n + 1)) i 0 ≡ newest (length heads) (set l n e) i (n + 1)
   head-after =
       stored heads b (n + 1) (λ i. newest (length heads) (set l n e) i (n + 1))
-      (rw add-one (sym (this-one (length heads) (set l n e) b n class-here)))
-      (λ i h u. rw add-one (K .head i h ∙ sym (not-this (length heads) (set l n e) i n (λ q. u (sym q ∙ class-here)) ∙ newest-set l n e (length heads) i n (omega arith))))
+      (rw add-one (sym (this-one (length heads) (set l n e) b n chain-here)))
+      (λ i h u. rw add-one (K .head i h ∙ sym (not-this (length heads) (set l n e) i n (λ q. u (sym q ∙ chain-here)) ∙ newest-set l n e (length heads) i n (omega arith))))
 
-  link-after : (i : ℕ) → i < n + 1 → linkIn (getD (set l n e) i 0) ≡ newest (length heads) (set l n e) (classAt (length heads) (set l n e) i) i
+  link-after : (i : ℕ) → i < n + 1 → linkIn (getD (set l n e) i 0) ≡ newest (length heads) (set l n e) (chainAt (length heads) (set l n e) i) i
   link-after i h =
       by-eq i n
-      (λ q. rw (q, class-here, newest-set l n e (length heads) b n (omega arith), here) (entry-is .1 ∙ K .head b (class-is .1)))
+      (λ q. rw (q, chain-here, newest-set l n e (length heads) b n (omega arith), here) (entry-is .1 ∙ K .head b (chain-is .1)))
       (λ u.
       let v : i < n = omega arith in
-      rw (below-set l n e i v, newest-set l n e (length heads) (classAt (length heads) l i) i (omega arith)) (K .link i v))
+      rw (below-set l n e i v, newest-set l n e (length heads) (chainAt (length heads) l i) i (omega arith)) (K .link i v))
 
   pub inserted : Inserted l heads n name t (set l n e) (set heads b (n + 1)) (n + 1)
   unfolding envOf
@@ -162,13 +159,13 @@ module _ {l heads : List ℕ} {n name : ℕ} {t : Ty} {b : ℕ} (e : ℕ) (K : K
   }
 
 -- ONE LESS
-module _ {l heads : List ℕ} {n b : ℕ} (K : Known l heads n) (h : 0 < n) (class-is : (b ≡ classAt (length heads) l (n - 1)) × (b < length heads)) where
+module _ {l heads : List ℕ} {n b : ℕ} (K : Known l heads n) (h : 0 < n) (chain-is : (b ≡ chainAt (length heads) l (n - 1)) × (b < length heads)) where
   head-before : (i : ℕ) → i < length heads → getD (set heads b (linkIn (getD l (n - 1) 0))) i 0 ≡ newest (length heads) l i (n - 1)
   head-before =
       let e : n ≡ suc (n - 1) = omega arith in
       stored heads b (linkIn (getD l (n - 1) 0)) (λ i. newest (length heads) l i (n - 1))
-      (rw (class-is .0) (K .link (n - 1) (omega arith)))
-      (λ i g u. K .head i g ∙ (ap (newest (length heads) l i) e ∙ not-this (length heads) l i (n - 1) (λ q. u (sym q ∙ sym (class-is .0)))))
+      (rw (chain-is .0) (K .link (n - 1) (omega arith)))
+      (λ i g u. K .head i g ∙ (ap (newest (length heads) l i) e ∙ not-this (length heads) l i (n - 1) (λ q. u (sym q ∙ sym (chain-is .0)))))
 
   pub dropped : Known l (set heads b (linkIn (getD l (n - 1) 0))) (n - 1)
   dropped = record {

@@ -9,22 +9,8 @@ use Rattle.definitions.proofs.Results.{by-test}
 use Rattle.definitions.specs.Ir.{IrType, tagOf, nameOf}
 use Rattle.definitions.specs.Records.{typeFrom}
 use Rattle.definitions.specs.Analyze.{Ty, known, Unknown, differs}
+use Rattle.ir.proofs.Codes.{type-back, tag-low}
 use Rattle.analyze_env.specs.Known.{tyCode, tyFrom, nameIn, linkIn, tyIn}
-
-type-back : (t : IrType) → typeFrom (tagOf t) (nameOf t) ≡ t
-unfolding typeFrom
-type-back IrType.U64 = refl
-type-back IrType.BoolT = refl
-type-back IrType.FieldT = refl
-type-back (IrType.Struct n) = refl
-type-back IrType.Void = refl
-
-tag-low : (t : IrType) → tagOf t ≤ 4
-tag-low IrType.U64 = omega arith
-tag-low IrType.BoolT = omega arith
-tag-low IrType.FieldT = omega arith
-tag-low (IrType.Struct n) = omega arith
-tag-low IrType.Void = omega arith
 
 ty-back : (t : Ty) → tyCode t < 4294967296 → tyFrom (tyCode t) ≡ t
 unfolding tyFrom

@@ -1,4 +1,4 @@
--- The names that are known in a function, as the code keeps them: a number for each, newest last, and for each class of names its newest. Untrusted: helper
+-- The names that are known in a function, as the code keeps them: a number for each, newest last, and for each chain of names its newest. Untrusted: helper
 -- definitions. Assumes nothing: these are definitions.
 use Prim.Native.Nat.{ℕ, zero, suc, _+_, _*_, _/_, _%_, _≤_, _<_}
 use mathlib.Core.Path.{_≡_}
@@ -12,17 +12,17 @@ use Rattle.definitions.specs.Analyze as analyze
 use Rattle.ir.specs.Types.{asType}
 use Rattle.analyze_env.specs.declared.Ty.{Ty}
 use Rattle.analyze_env.specs.declared.Ty.the-variants as ty
-use Rattle.analyze_env.specs.declared.Got.{Got}
-use Rattle.analyze_env.specs.declared.Got.the-variants as got
+use Rattle.analyze_env.specs.declared.NameType.{NameType}
+use Rattle.analyze_env.specs.declared.NameType.the-variants as nameType
 
 -- the code's types and answers in the words of the definitions
 abbrev pub asTy : Ty → analyze.Ty
 asTy (ty.Known t) = analyze.known (asType t)
 asTy ty.Unknown = analyze.Unknown
 
-abbrev pub gotOf : Got → Option analyze.Ty
-gotOf (got.Type t) = some (asTy t)
-gotOf got.Missing = none
+abbrev pub nameTypeOf : NameType → Option analyze.Ty
+nameTypeOf (nameType.Type t) = some (asTy t)
+nameTypeOf nameType.Missing = none
 
 -- a type's number, and the type of a number; the number 5 is `Unknown`
 abbrev pub tyCode : analyze.Ty → ℕ
@@ -47,26 +47,26 @@ unfoldable pub envOf : List ℕ → ℕ → analyze.Env
 envOf l zero = []
 envOf l (suc n) = (nameIn (getD l n 0), tyIn (getD l n 0)) ∷ envOf l n
 
--- the class of a name: with 65,536 classes, its own
-unfoldable pub classOf : (classes name : ℕ) → ℕ
-classOf classes name = pick (ltb classes 65536) (name % 1024) name
+-- the chain of a name: with 65,536 chains, its own
+unfoldable pub chainOf : (chains name : ℕ) → ℕ
+chainOf chains name = pick (ltb chains 65536) (name % 1024) name
 
--- the class of the entry at i
-abbrev pub classAt : (classes : ℕ) → List ℕ → ℕ → ℕ
-classAt classes l i = classOf classes (nameIn (getD l i 0))
+-- the chain of the entry at i
+abbrev pub chainAt : (chains : ℕ) → List ℕ → ℕ → ℕ
+chainAt chains l i = chainOf chains (nameIn (getD l i 0))
 
--- the newest of the class b among the first n, as its position and one; 0 if there is none
-unfoldable pub newest : (classes : ℕ) → List ℕ → (b : ℕ) → ℕ → ℕ
-newest classes l b zero = 0
-newest classes l b (suc n) = pick (eqb (classAt classes l n) b) (suc n) (newest classes l b n)
+-- the newest of the chain b among the first n, as its position and one; 0 if there is none
+unfoldable pub newest : (chains : ℕ) → List ℕ → (b : ℕ) → ℕ → ℕ
+newest chains l b zero = 0
+newest chains l b (suc n) = pick (eqb (chainAt chains l n) b) (suc n) (newest chains l b n)
 
--- the first n entries are known: the head of each class is its newest entry, and each entry's link is the newest of its class before it
+-- the first n entries are known: the head of each chain is its newest entry, and each entry's link is the newest of its chain before it
 pub record Known (l heads : List ℕ) (n : ℕ) : Type 0 where
   pub room : n ≤ length l
   pub short : length l ≤ 65535
   pub wide : 1024 ≤ length heads
   pub head : (b : ℕ) → b < length heads → getD heads b 0 ≡ newest (length heads) l b n
-  pub link : (i : ℕ) → i < n → linkIn (getD l i 0) ≡ newest (length heads) l (classAt (length heads) l i) i
+  pub link : (i : ℕ) → i < n → linkIn (getD l i 0) ≡ newest (length heads) l (chainAt (length heads) l i) i
 
 -- one name more: what was known before is known at every earlier mark
 pub record Inserted (l heads : List ℕ) (n name : ℕ) (t : analyze.Ty) (l₁ heads₁ : List ℕ) (r : ℕ) : Type 0 where

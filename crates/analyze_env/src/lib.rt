@@ -1,11 +1,11 @@
-// The names that are known in a function, with their types (`env` of `sema.rs`). Each class of names has a head, the position of its newest
-// entry and one, and each entry a link to the one before it of its class. The slices are lent; a caller keeps the count.
+// The names that are known in a function, with their types (`env` of `sema.rs`). Each chain of names has a head, the position of its newest
+// entry and one, and each entry a link to the one before it of its chain. The slices are lent; a caller keeps the count.
 ghost use mathlib.Core.Path.{_≡_};
 ghost use Prim.Native.Nat.{_≤_, _<_};
 ghost use lib.ListN.{length};
 ghost use Rattle.definitions.specs.Analyze as analyze;
 ghost use Rattle.definitions.specs.Analyze.{get};
-ghost use Rattle.analyze_env.specs.Known.{asTy, gotOf, tyCode, nameIn, linkIn, tyIn, envOf, classOf, Known, Inserted};
+ghost use Rattle.analyze_env.specs.Known.{asTy, nameTypeOf, tyCode, nameIn, linkIn, tyIn, envOf, chainOf, Known, Inserted};
 use ir::IrType;
 use ir::Name;
 use ir::VOID_CODE;
@@ -25,7 +25,7 @@ pub enum Ty {
 }
 
 // A name's type, if it is known.
-pub enum Got {
+pub enum NameType {
     Type(Ty),
     Missing,
 }
@@ -69,7 +69,7 @@ const TYPE: u64 = 4294967296;
 // How many numbers a link's sixteen bits have.
 const LINKS: u64 = 65536;
 
-// A name with the link of its class and its type.
+// A name with the link of its chain and its type.
 fn entry(name: Name, link: u16, t: Ty) -> u64
     ensures { λ r. ⌜ (nameIn r ≡ name .0) × (linkIn r ≡ link) × (tyIn r ≡ asTy t) ⌝ }
 {
@@ -89,34 +89,34 @@ fn type_in(e: u64) -> Ty
     Ty::Known(t)
 }
 
-// The class of a name.
-fn class_of(name: Name, classes: usize) -> usize
-    requires { ⌜ 1024 ≤ classes ⌝ }
-    ensures { λ r. ⌜ (r ≡ classOf classes (name .0)) × (r < classes) ⌝ }
+// The chain of a name.
+fn chain_of(name: Name, chains: usize) -> usize
+    requires { ⌜ 1024 ≤ chains ⌝ }
+    ensures { λ r. ⌜ (r ≡ chainOf chains (name .0)) × (r < chains) ⌝ }
 {
     let number = name.0 as usize;
-    if classes < ALL {
+    if chains < ALL {
         return number % FEW;
     }
     number
 }
 
 // The type of the newest entry of a name.
-pub fn lookup(entries: &[u64], heads: &[u16], count: usize, name: Name) -> Got
+pub fn lookup(entries: &[u64], heads: &[u16], count: usize, name: Name) -> NameType
     requires { ⌜ Known (now entries) (now heads) count ⌝ }
-    ensures { λ r. ⌜ gotOf r ≡ get (name .0) (envOf (now (entries .entry)) count) ⌝ }
+    ensures { λ r. ⌜ nameTypeOf r ≡ get (name .0) (envOf (now (entries .entry)) count) ⌝ }
 {
     let wanted = name.0 as u64;
-    let class = class_of(name, heads.len());
-    let mut i = heads[class] as usize;
+    let chain = chain_of(name, heads.len());
+    let mut i = heads[chain] as usize;
     while 0 < i {
         let e = entries[i - 1];
         if e % LINK == wanted {
-            return Got::Type(type_in(e));
+            return NameType::Type(type_in(e));
         }
         i = (e / LINK % LINKS) as usize;
     }
-    Got::Missing
+    NameType::Missing
 }
 
 // One name more is known.
@@ -124,10 +124,10 @@ pub fn insert(entries: &mut [u64], heads: &mut [u16], count: usize, name: Name, 
     requires { ⌜ Known (now entries) (now heads) count × (count < length (now entries)) ⌝ }
     ensures { λ r. ⌜ Inserted (now (entries .entry)) (now (heads .entry)) count (name .0) (asTy t) (now (entries .exit)) (now (heads .exit)) r ⌝ }
 {
-    let class = class_of(name, heads.len());
-    let link = heads[class];
+    let chain = chain_of(name, heads.len());
+    let link = heads[chain];
     entries[count] = entry(name, link, t);
-    heads[class] = (count + 1) as u16;
+    heads[chain] = (count + 1) as u16;
     count + 1
 }
 
@@ -140,7 +140,7 @@ pub fn undo(entries: &[u64], heads: &mut [u16], count: usize, mark: usize)
     while mark < n {
         n -= 1;
         let e = entries[n];
-        let class = class_of(Name((e % LINK) as u16), heads.len());
-        heads[class] = (e / LINK % LINKS) as u16;
+        let chain = chain_of(Name((e % LINK) as u16), heads.len());
+        heads[chain] = (e / LINK % LINKS) as u16;
     }
 }

@@ -19,7 +19,7 @@ use Rattle.analyze_state.specs.Errors.{errorOf}
 use Rattle.analyze_state.specs.declared.SemaError as code-errors
 use Rattle.analyze_exprs.specs.declared.Typed.{Typed}
 use Rattle.analyze_exprs.specs.declared.Typed.the-variants as typed
-use Rattle.analyze_exprs.specs.Typed.{typedOf, mappingOn, accessOn, binaryOn}
+use Rattle.analyze_exprs.specs.Typed.{typedOf, mappingOn, accessOn, binaryTy}
 
 -- WHAT CAME OF AN EXPRESSION, once the code's answer is taken apart
 pub gave : {r : Typed} {t : code.Ty} {X : Checking Ty} → typedOf r ≡ X → r ≡ typed.Type t → X ≡ ok (asTy t)
@@ -69,13 +69,13 @@ module _ {s : List ℕ} {at d : ℕ} (r : Ready Class.expression s at d) {k : �
 
     -- an operator, given what came of the left operand
     bothSides : Expr → Checking Ty → Checking Ty
-    bothSides x left = left >>= λ l. binaryOn at l (checkExpr (readContract s) env x)
+    bothSides x left = left >>= λ l. binaryTy at l (checkExpr (readContract s) env x)
 
-    pub binary-checks : {n : ℕ} {l : Ty} {right X : Checking Ty} → k ≡ 36 → n ≡ le 4 s (at + 8) → checkExpr (readContract s) env (exprAt s (at + 8)) ≡ ok l → right ≡ checkExpr (readContract s) env (exprAt s (at + 8 + n)) → X ≡ binaryOn at l right → Checks X
+    pub binary-checks : {n : ℕ} {l : Ty} {right X : Checking Ty} → k ≡ 36 → n ≡ le 4 s (at + 8) → checkExpr (readContract s) env (exprAt s (at + 8)) ≡ ok l → right ≡ checkExpr (readContract s) env (exprAt s (at + 8 + n)) → X ≡ binaryTy at l right → Checks X
     unfolding checkExpr bothSides
     binary-checks {n} {l} e q w v h =
         read-as s at env (binary-at r (kind e) .is)
-        (h ∙ (ap (binaryOn at l) (v ∙ ap (λ (m : ℕ). checkExpr (readContract s) env (exprAt s (at + 8 + m))) q) ∙ ap (bothSides (exprAt s (at + 8 + le 4 s (at + 8)))) (sym w)))
+        (h ∙ (ap (binaryTy at l) (v ∙ ap (λ (m : ℕ). checkExpr (readContract s) env (exprAt s (at + 8 + m))) q) ∙ ap (bothSides (exprAt s (at + 8 + le 4 s (at + 8)))) (sym w)))
 
     pub binary-refused : {x : Refusal} → k ≡ 36 → checkExpr (readContract s) env (exprAt s (at + 8)) ≡ err x → Checks (err x)
     unfolding checkExpr bothSides

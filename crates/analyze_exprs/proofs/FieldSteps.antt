@@ -16,11 +16,11 @@ use Rattle.analyze_walk.specs.Stops.{Checking, sema, refuseIf, checkExpr, check
 use Rattle.sheet.specs.Passed.{recordKind, stopOf}
 use Rattle.contract_nodes.specs.Ready.{exprAt, Ready, ReadyAll}
 use Rattle.analyze_state.specs.Errors.{errorOf}
-use Rattle.analyze_state.specs.Scene.{checkedOf}
+use Rattle.analyze_state.specs.Scene.{bodyCheckOf}
 use Rattle.analyze_state.specs.declared.SemaError as code-errors
-use Rattle.analyze_state.specs.declared.Checked.{Checked}
-use Rattle.analyze_state.specs.declared.Checked.the-variants as checked
-use Rattle.analyze_exprs.specs.Typed.{fieldOn}
+use Rattle.analyze_state.specs.declared.BodyCheck.{BodyCheck}
+use Rattle.analyze_state.specs.declared.BodyCheck.the-variants as checked
+use Rattle.analyze_exprs.specs.Typed.{fieldFits}
 use Rattle.analyze_exprs.proofs.ExprSteps.{read-as}
 use Rattle.analyze_exprs.proofs.Literals.{initsFrom, literal-at, FieldAt, field-at, no-field}
 
@@ -32,7 +32,7 @@ firstThen p sf n rest value = do
   refuseIf (differs ty (known (fromStr (expected .ty)))) (sema p 7)
   rest
 
-first-then : (p : ℕ) (sf : List Param) (n : ℕ) (rest : Checking Done) (value : Checking Ty) → firstThen p sf n rest value ≡ fieldOn p sf n value >> rest
+first-then : (p : ℕ) (sf : List Param) (n : ℕ) (rest : Checking Done) (value : Checking Ty) → firstThen p sf n rest value ≡ fieldFits p sf n value >> rest
 unfolding firstThen
 first-then p sf n rest (err x) = refl
 first-then p sf n rest (ok ty) = found (fieldType sf n)
@@ -85,22 +85,22 @@ module _ {s : List ℕ} {d : ℕ} {env : Env} {p : ℕ} {sf : List Param} {n : �
   given : Checking Done → Checking Ty
   given r = r >> checkFields (readContract s) env p sf (initsFrom s (stopOf s field) stop) >> ok (known (IrType.Struct n))
 
-  opened : field < stop → given (fieldOn p sf (le 2 s (field + 6)) (checkExpr (readContract s) env (exprAt s (field + 8)))) ≡ R
+  opened : field < stop → given (fieldFits p sf (le 2 s (field + 6)) (checkExpr (readContract s) env (exprAt s (field + 8)))) ≡ R
   unfolding checkExpr given firstThen
   opened h =
       ap (λ (r : Checking Done). r >> ok (known (IrType.Struct n))) (sym (first-then p sf (le 2 s (field + 6)) (checkFields (readContract s) env p sf (initsFrom s (stopOf s field) stop)) (checkExpr (readContract s) env (exprAt s (field + 8)))))
       ∙ (ap gives (sym (field-here h .is)) ∙ g .is)
 
   module _ (h : field < stop) {m : ℕ} {value : Checking Ty} (m-is : m ≡ le 2 s (field + 6)) (value-is : value ≡ checkExpr (readContract s) env (exprAt s (field + 8))) where
-    came : {r : Checking Done} → r ≡ fieldOn p sf m value → given r ≡ R
-    came w = ap given (w ∙ (ap (λ (m : ℕ). fieldOn p sf m value) m-is ∙ ap (fieldOn p sf (le 2 s (field + 6))) value-is)) ∙ opened h
+    came : {r : Checking Done} → r ≡ fieldFits p sf m value → given r ≡ R
+    came w = ap given (w ∙ (ap (λ (m : ℕ). fieldFits p sf m value) m-is ∙ ap (fieldFits p sf (le 2 s (field + 6))) value-is)) ∙ opened h
 
     -- it passed
-    pub field-passed : {c : Checked} → checkedOf c ≡ fieldOn p sf m value → c ≡ checked.Passed → {size : ℕ} → size ≡ le 4 s field → Fields s d env p sf n R stop (field + size)
+    pub field-passed : {c : BodyCheck} → bodyCheckOf c ≡ fieldFits p sf m value → c ≡ checked.Passed → {size : ℕ} → size ≡ le 4 s field → Fields s d env p sf n R stop (field + size)
     unfolding given
-    field-passed w e q = rw q (record { left = field-here h .more .rest; is = came (sym (ap checkedOf e) ∙ w) })
+    field-passed w e q = rw q (record { left = field-here h .more .rest; is = came (sym (ap bodyCheckOf e) ∙ w) })
 
     -- it is refused
-    pub field-refused : {c : Checked} {x : code-errors.SemaError} → checkedOf c ≡ fieldOn p sf m value → c ≡ checked.Failed x → err (errorOf x) ≡ R
+    pub field-refused : {c : BodyCheck} {x : code-errors.SemaError} → bodyCheckOf c ≡ fieldFits p sf m value → c ≡ checked.Failed x → err (errorOf x) ≡ R
     unfolding given
-    field-refused w e = came (sym (ap checkedOf e) ∙ w)
+    field-refused w e = came (sym (ap bodyCheckOf e) ∙ w)

@@ -20,12 +20,12 @@ use Rattle.contract_lookup.specs.declared.FieldType.{FieldType}
 use Rattle.contract_lookup.specs.declared.FieldType.the-variants as looked
 use Rattle.analyze_env.specs.Known.{asTy}
 use Rattle.analyze_env.specs.declared.Ty.{Ty as CodeTy}
-use Rattle.analyze_walk.specs.Stops.{Checking, sema, refuseIf, accessIn, access}
+use Rattle.analyze_walk.specs.Stops.{Checking, sema, refuseIf, accessStruct, access}
 use Rattle.analyze_state.specs.Errors.{errorOf}
 use Rattle.analyze_state.specs.declared.SemaError.{SemaError}
 use Rattle.analyze_exprs.specs.declared.Typed.{Typed}
 use Rattle.analyze_exprs.specs.declared.Typed.the-variants as typed
-use Rattle.analyze_exprs.specs.Typed.{typedOf, mappingOn, accessOn, binaryOn, fieldCheck, fieldOn}
+use Rattle.analyze_exprs.specs.Typed.{typedOf, mappingOn, accessOn, binaryTy, fieldCheck, fieldFits}
 
 -- NAMES
 pub known-as : {o q : Option Ty} (e : Refusal) → o ≡ q → okOrElse o e ≡ okOrElse q e
@@ -48,19 +48,19 @@ unfolding fieldTypeNamed
 with-type fs n e k h q = ap (λ (o : Option IrType). okOrElse o e >>= k) (sym (ap fieldTypeOf q) ∙ h) ∙ by-type (fieldType fs n) e k
 
 -- FIELDS of a struct that is not declared, and of one that is
-pub undeclared : (p f : ℕ) {o : Option (ℕ × Struct)} → o ≡ none → ok Unknown ≡ accessIn p f o
+pub undeclared : (p f : ℕ) {o : Option (ℕ × Struct)} → o ≡ none → ok Unknown ≡ accessStruct p f o
 undeclared p f e = rw e
 
 module _ (p f : ℕ) {o : Option (ℕ × Struct)} {decl : ℕ × Struct} {r : FieldType} (d : o ≡ some decl) (h : fieldTypeOf r ≡ fieldTypeNamed (decl .1 .fields) f) where
-  pub field-there : {t : CodeType} → r ≡ looked.Type t → ok (known (asType t)) ≡ accessIn p f o
+  pub field-there : {t : CodeType} → r ≡ looked.Type t → ok (known (asType t)) ≡ accessStruct p f o
   field-there e = rw d (with-type (decl .1 .fields) f (sema p 5) (λ (t : IrType). ok (known t)) h e)
 
-  pub no-field : r ≡ looked.Missing → err (sema p 5) ≡ accessIn p f o
+  pub no-field : r ≡ looked.Missing → err (sema p 5) ≡ accessStruct p f o
   no-field e = rw d (with-type (decl .1 .fields) f (sema p 5) (λ (t : IrType). ok (known t)) h e)
 
 -- by the type, and by what came of the base
 module _ (K : Contract) (p f : ℕ) {X : Checking Ty} where
-  pub struct-field : {t : CodeType} {of : Name} → t ≡ code.Struct of → X ≡ accessIn p f (structNamed K (of .0)) → X ≡ access K p f (known (asType t))
+  pub struct-field : {t : CodeType} {of : Name} → t ≡ code.Struct of → X ≡ accessStruct p f (structNamed K (of .0)) → X ≡ access K p f (known (asType t))
   unfolding access
   struct-field e h = rw e h
 
@@ -78,13 +78,13 @@ base-refused K p f q = rw q
 
 -- OPERATORS
 module _ (p : ℕ) (l : CodeTy) {r : Typed} where
-  pub operands-differ : {t : CodeTy} → r ≡ typed.Type t → differs (asTy l) (asTy t) ≡ true → err (sema p 13) ≡ binaryOn p (asTy l) (typedOf r)
+  pub operands-differ : {t : CodeTy} → r ≡ typed.Type t → differs (asTy l) (asTy t) ≡ true → err (sema p 13) ≡ binaryTy p (asTy l) (typedOf r)
   operands-differ e h = rw (e, h)
 
-  pub operands-agree : {t : CodeTy} → r ≡ typed.Type t → differs (asTy l) (asTy t) ≡ false → ok (asTy l) ≡ binaryOn p (asTy l) (typedOf r)
+  pub operands-agree : {t : CodeTy} → r ≡ typed.Type t → differs (asTy l) (asTy t) ≡ false → ok (asTy l) ≡ binaryTy p (asTy l) (typedOf r)
   operands-agree e h = rw (e, h)
 
-  pub right-refused : {e : SemaError} → r ≡ typed.Refused e → err (errorOf e) ≡ binaryOn p (asTy l) (typedOf r)
+  pub right-refused : {e : SemaError} → r ≡ typed.Refused e → err (errorOf e) ≡ binaryTy p (asTy l) (typedOf r)
   right-refused e = rw e
 
 -- THE FIELDS OF A LITERAL, by the value's type, and by what came of the value
@@ -105,8 +105,8 @@ module _ (p : ℕ) (fs : List Param) (n : ℕ) where
     pub unknown-field : r ≡ looked.Missing → err (sema p 8) ≡ fieldCheck p fs n (asTy ty)
     unknown-field e = with-type fs n (sema p 8) (fit (asTy ty)) h e
 
-  pub value-given : {v : Typed} {t : CodeTy} {X : Checking Done} → v ≡ typed.Type t → X ≡ fieldCheck p fs n (asTy t) → X ≡ fieldOn p fs n (typedOf v)
+  pub value-given : {v : Typed} {t : CodeTy} {X : Checking Done} → v ≡ typed.Type t → X ≡ fieldCheck p fs n (asTy t) → X ≡ fieldFits p fs n (typedOf v)
   value-given e h = rw e h
 
-  pub value-refused : {v : Typed} {e : SemaError} → v ≡ typed.Refused e → err (errorOf e) ≡ fieldOn p fs n (typedOf v)
+  pub value-refused : {v : Typed} {e : SemaError} → v ≡ typed.Refused e → err (errorOf e) ≡ fieldFits p fs n (typedOf v)
   value-refused e = rw e

@@ -10,15 +10,15 @@ ghost use Rattle.sheet.specs.Passed.{ContractPassed};
 ghost use Rattle.contract_nodes.specs.Ready.{Ready, treeAt};
 ghost use Rattle.contract_lookup.specs.Listed.{Listed};
 ghost use Rattle.analyze_env.specs.Known.{asTy, envOf, Known};
-ghost use Rattle.analyze_walk.specs.Stops.{sema, accessIn, access};
-ghost use Rattle.analyze_state.specs.Scene.{checkedOf};
-ghost use Rattle.analyze_exprs.specs.Typed.{typedOf, mappingOn, accessOn, binaryOn, fieldCheck, fieldOn};
+ghost use Rattle.analyze_walk.specs.Stops.{sema, accessStruct, access};
+ghost use Rattle.analyze_state.specs.Scene.{bodyCheckOf};
+ghost use Rattle.analyze_exprs.specs.Typed.{typedOf, mappingOn, accessOn, binaryTy, fieldCheck, fieldFits};
 use crate::Typed;
-use analyze_env::Got;
+use analyze_env::NameType;
 use analyze_env::Ty;
 use analyze_env::differs;
 use analyze_env::lookup;
-use analyze_state::Checked;
+use analyze_state::BodyCheck;
 use analyze_state::SemaError;
 use contract_lookup::FieldType;
 use contract_lookup::places::last_place;
@@ -32,8 +32,8 @@ pub(crate) fn ident(at: usize, name: Name, entries: &[u64], heads: &[u16], count
     ensures { λ r. ⌜ typedOf r ≡ okOrElse (get (name .0) (envOf (now (entries .entry)) count)) (sema at 4) ⌝ }
 {
     match lookup(entries, heads, count, name) {
-        Got::Type(t) => Typed::Type(t),
-        Got::Missing => Typed::Refused(SemaError::UndefinedIdentifier(at)),
+        NameType::Type(t) => Typed::Type(t),
+        NameType::Missing => Typed::Refused(SemaError::UndefinedIdentifier(at)),
     }
 }
 
@@ -50,7 +50,7 @@ pub(crate) fn mapping(key: Typed) -> Typed
 // A field of a struct of a name. One that is not declared is no error.
 fn access_in(s: &[u8], at: usize, field: Name, of: Name, structs: &[u32], n: usize) -> Typed
     requires { ⌜ ContractPassed (now s) × Listed (now s) 3 (now structs) n ⌝ }
-    ensures { λ r. ⌜ typedOf r ≡ accessIn at (field .0) (structNamed (readContract (now (s .entry))) (of .0)) ⌝ }
+    ensures { λ r. ⌜ typedOf r ≡ accessStruct at (field .0) (structNamed (readContract (now (s .entry))) (of .0)) ⌝ }
 {
     let place = last_place(s, structs, n, of);
     if place == 0 {
@@ -107,7 +107,7 @@ pub(crate) fn access(
 
 // An operator, by the left operand's type and what came of the right one.
 pub(crate) fn binary(at: usize, left: Ty, right: Typed) -> Typed
-    ensures { λ r. ⌜ typedOf r ≡ binaryOn at (asTy left) (typedOf right) ⌝ }
+    ensures { λ r. ⌜ typedOf r ≡ binaryTy at (asTy left) (typedOf right) ⌝ }
 {
     match right {
         Typed::Type(t) => {
@@ -121,28 +121,28 @@ pub(crate) fn binary(at: usize, left: Ty, right: Typed) -> Typed
 }
 
 // A field of a literal of the struct at `of`, by the type of its value. The literal's place is `at`.
-fn check_value(s: &[u8], at: usize, of: usize, field: Name, ty: Ty) -> Checked
+fn check_value(s: &[u8], at: usize, of: usize, field: Name, ty: Ty) -> BodyCheck
     requires { ⌜ ContractPassed (now s) × Ready Class.struct (now s) of 39 ⌝ }
-    ensures { λ r. ⌜ checkedOf r ≡ fieldCheck at (structOf (treeAt (now (s .entry)) of) .fields) (field .0) (asTy ty) ⌝ }
+    ensures { λ r. ⌜ bodyCheckOf r ≡ fieldCheck at (structOf (treeAt (now (s .entry)) of) .fields) (field .0) (asTy ty) ⌝ }
 {
     match field_type(s, of, field) {
         FieldType::Type(expected) => {
             if differs(ty, Ty::Known(expected)) {
-                return Checked::Failed(SemaError::FieldMismatch(at));
+                return BodyCheck::Failed(SemaError::FieldMismatch(at));
             }
-            Checked::Passed
+            BodyCheck::Passed
         }
-        FieldType::Missing => Checked::Failed(SemaError::UnknownField(at)),
+        FieldType::Missing => BodyCheck::Failed(SemaError::UnknownField(at)),
     }
 }
 
 // The same, by what came of its value.
-pub(crate) fn check_field(s: &[u8], at: usize, of: usize, field: Name, typed: Typed) -> Checked
+pub(crate) fn check_field(s: &[u8], at: usize, of: usize, field: Name, typed: Typed) -> BodyCheck
     requires { ⌜ ContractPassed (now s) × Ready Class.struct (now s) of 39 ⌝ }
-    ensures { λ r. ⌜ checkedOf r ≡ fieldOn at (structOf (treeAt (now (s .entry)) of) .fields) (field .0) (typedOf typed) ⌝ }
+    ensures { λ r. ⌜ bodyCheckOf r ≡ fieldFits at (structOf (treeAt (now (s .entry)) of) .fields) (field .0) (typedOf typed) ⌝ }
 {
     match typed {
         Typed::Type(t) => check_value(s, at, of, field, t),
-        Typed::Refused(e) => Checked::Failed(e),
+        Typed::Refused(e) => BodyCheck::Failed(e),
     }
 }

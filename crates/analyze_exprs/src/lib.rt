@@ -5,16 +5,13 @@ ghost use Prim.Native.Nat.{_+_, _≤_};
 ghost use lib.ListN.{length};
 ghost use Rattle.definitions.specs.Fields.{le};
 ghost use Rattle.definitions.specs.Grammar.{Class};
-ghost use Rattle.definitions.specs.ContractSheet.{readContract};
 ghost use Rattle.sheet.specs.Passed.{recordKind};
-ghost use Rattle.contract_nodes.specs.Ready.{Ready, exprAt};
-ghost use Rattle.analyze_env.specs.Known.{envOf};
-ghost use Rattle.analyze_walk.specs.Stops.{checkExpr};
+ghost use Rattle.contract_nodes.specs.Ready.{Ready};
 ghost use Rattle.analyze_state.specs.Scene.{Scene};
-ghost use Rattle.analyze_exprs.specs.Typed.{typedOf};
+ghost use Rattle.analyze_exprs.specs.Typed.{ExprTyped};
 use analyze_env::Ty;
 use analyze_state::Analyzer;
-use analyze_state::Checked;
+use analyze_state::BodyCheck;
 use analyze_state::SemaError;
 use contract_lookup::name_at;
 use contract_lookup::places::last_place;
@@ -54,7 +51,7 @@ pub fn analyze_expr(
     ctx: Analyzer,
 ) -> Typed
     requires { ⌜ Ready Class.expression (now s) at depth × Scene (now s) (now entries) (now heads) (now structs) (now functions) ctx ⌝ }
-    ensures { λ r. ⌜ typedOf r ≡ checkExpr (readContract (now (s .entry))) (envOf (now (entries .entry)) (ctx .names)) (exprAt (now (s .entry)) at) ⌝ }
+    ensures { λ r. ⌜ ExprTyped (now (s .entry)) at (now (entries .entry)) ctx r ⌝ }
 {
     let kind = read(s, at + KIND, 2);
     let first = at + contract::AFTER_NAME;
@@ -110,7 +107,7 @@ fn analyze_literal(
 ) -> Typed
     requires { ⌜ Ready Class.expression (now s) at depth × Scene (now s) (now entries) (now heads) (now structs) (now functions) ctx ⌝ }
     requires { ⌜ recordKind (now s) at ≡ 35 ⌝ }
-    ensures { λ r. ⌜ typedOf r ≡ checkExpr (readContract (now (s .entry))) (envOf (now (entries .entry)) (ctx .names)) (exprAt (now (s .entry)) at) ⌝ }
+    ensures { λ r. ⌜ ExprTyped (now (s .entry)) at (now (entries .entry)) ctx r ⌝ }
 {
     let name = name_at(s, at);
     let of = last_place(s, structs, ctx.structs, name);
@@ -123,8 +120,8 @@ fn analyze_literal(
         let value = field + contract::AFTER_NAME;
         let typed = analyze_expr(s, value, depth - 2, entries, heads, structs, functions, ctx);
         match leaves::check_field(s, at, of, name_at(s, field), typed) {
-            Checked::Passed => {}
-            Checked::Failed(e) => {
+            BodyCheck::Passed => {}
+            BodyCheck::Failed(e) => {
                 return Typed::Refused(e);
             }
         }
@@ -146,7 +143,7 @@ fn analyze_call(
 ) -> Typed
     requires { ⌜ Ready Class.expression (now s) at depth × Scene (now s) (now entries) (now heads) (now structs) (now functions) ctx ⌝ }
     requires { ⌜ recordKind (now s) at ≡ 37 ⌝ }
-    ensures { λ r. ⌜ typedOf r ≡ checkExpr (readContract (now (s .entry))) (envOf (now (entries .entry)) (ctx .names)) (exprAt (now (s .entry)) at) ⌝ }
+    ensures { λ r. ⌜ ExprTyped (now (s .entry)) at (now (entries .entry)) ctx r ⌝ }
 {
     let callee = calls::callee(s, name_at(s, at), functions, ctx.functions);
     let stop = at + read(s, at, 4);

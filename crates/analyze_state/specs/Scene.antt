@@ -8,8 +8,8 @@ use Rattle.analyze_env.specs.Known.{Known}
 use Rattle.analyze_walk.specs.Stops.{Checking}
 use Rattle.analyze_state.specs.Errors.{errorOf}
 use Rattle.analyze_state.specs.declared.Analyzer.{Analyzer}
-use Rattle.analyze_state.specs.declared.Checked.{Checked}
-use Rattle.analyze_state.specs.declared.Checked.the-variants as checked
+use Rattle.analyze_state.specs.declared.BodyCheck.{BodyCheck}
+use Rattle.analyze_state.specs.declared.BodyCheck.the-variants as checked
 
 -- the sheet passed, names are known, and the structs and functions of the contract are listed
 pub record Scene (s entries heads structs functions : List ℕ) (a : Analyzer) : Type 0 where
@@ -18,6 +18,6 @@ pub record Scene (s entries heads structs functions : List ℕ) (a : Analyzer) :
   pub structs-listed : Listed s 3 structs (a .structs)
   pub functions-listed : Listed s 4 functions (a .functions)
 
-abbrev pub checkedOf : Checked → Checking Done
-checkedOf checked.Passed = ok tt
-checkedOf (checked.Failed e) = err (errorOf e)
+abbrev pub bodyCheckOf : BodyCheck → Checking Done
+bodyCheckOf checked.Passed = ok tt
+bodyCheckOf (checked.Failed e) = err (errorOf e)

@@ -28,7 +28,7 @@ pub struct Analyzer {
 }
 
 // Whether a part passed.
-pub enum Checked {
+pub enum BodyCheck {
     Passed,
     Failed(SemaError),
 }

@@ -13,27 +13,25 @@ use Rattle.definitions.specs.ContractSheet.{readContract}
 use Rattle.definitions.specs.Ir.{IrType}
 use Rattle.definitions.specs.Analyze.{Ty, known, differs, Env, get}
 use Rattle.definitions.specs.Answers.{Refusal}
+use Rattle.definitions.proofs.Results.{told}
 use Rattle.sheet.specs.Passed.{recordKind, stopOf}
 use Rattle.contract_nodes.specs.Ready.{exprAt, exprsFrom, stmtAt, Ready, ReadyAll}
 use Rattle.contract_nodes.proofs.Children.{more, no-more}
 use Rattle.contract_nodes.proofs.Parts.{stop-is}
 use Rattle.contract_nodes.proofs.Stmts.{constrain-at, expr-stmt-at, assign-at, write-at, mapping-at, return-at, emit-at}
 use Rattle.analyze_walk.specs.Stops.{Checking, sema, refuseIf, checkExpr, checkArguments, checkReturn, checkStmt}
-use Rattle.analyze_env.specs.Known.{asTy, gotOf}
+use Rattle.analyze_env.specs.Known.{asTy, nameTypeOf}
 use Rattle.analyze_env.specs.declared.Ty as code
-use Rattle.analyze_env.specs.declared.Got.{Got}
-use Rattle.analyze_env.specs.declared.Got.the-variants as got
+use Rattle.analyze_env.specs.declared.NameType.{NameType}
+use Rattle.analyze_env.specs.declared.NameType.the-variants as nameType
 use Rattle.analyze_state.specs.Errors.{errorOf}
 use Rattle.analyze_state.specs.declared.SemaError.{SemaError}
 use Rattle.analyze_exprs.specs.Typed.{typedOf}
 use Rattle.analyze_exprs.specs.declared.Typed.{Typed}
 use Rattle.analyze_exprs.specs.declared.Typed.the-variants as typed
-use Rattle.analyze_stmts.specs.Stepped.{dropType, assignOn, returnOn}
+use Rattle.analyze_stmts.specs.Stmts.{dropType, assignOn, returnOn}
 
 -- what a variant means, from what the answer means
-pub told : {A B : Type 0} (f : A → B) {r v : A} {x : B} → r ≡ v → f r ≡ x → f v ≡ x
-told f e h = sym (ap f e) ∙ h
-
 -- GROUPED STEPS
 dropped : {A : Type 0} (x : Checking Ty) (y : Checking A) → (dropType x >> y) ≡ (x >> y)
 dropped (err e) y = refl
@@ -92,19 +90,19 @@ module _ {s : List ℕ} {at d : ℕ} (ready : Ready Class.statement s at d) (env
   assigned : Option Ty → Checking Env
   assigned o = okOrElse o (sema at 2) >>= λ expected. check (exprAt s (at + 8)) >>= λ ty. refuseIf (differs ty expected) (sema at 1) >> ok env
 
-  module _ (k : recordKind s at ≡ 12) {g : Got} {n : ℕ} (w : gotOf g ≡ get n env) (i : n ≡ le 2 s (at + 6)) where
-    assign-opens : {v : Got} → g ≡ v → Whole (assigned (gotOf v))
+  module _ (k : recordKind s at ≡ 12) {g : NameType} {n : ℕ} (w : nameTypeOf g ≡ get n env) (i : n ≡ le 2 s (at + 6)) where
+    assign-opens : {v : NameType} → g ≡ v → Whole (assigned (nameTypeOf v))
     unfolding checkStmt assigned
-    assign-opens e = reads (assign-at ready k .is) (ap assigned (told gotOf e w ∙ ap (λ (m : ℕ). get m env) i))
+    assign-opens e = reads (assign-at ready k .is) (ap assigned (told nameTypeOf e w ∙ ap (λ (m : ℕ). get m env) i))
 
-    pub assign-done : {t : code.Ty} → g ≡ got.Type t → {x : Checking Ty} {r : Checking Done} → r ≡ assignOn at (asTy t) x → x ≡ check (exprAt s (at + 8)) → Whole (r >> ok env)
+    pub assign-done : {t : code.Ty} → g ≡ nameType.Type t → {x : Checking Ty} {r : Checking Done} → r ≡ assignOn at (asTy t) x → x ≡ check (exprAt s (at + 8)) → Whole (r >> ok env)
     unfolding assigned
     assign-done {t} e {x} h q =
         ap (λ (y : Checking Done). y >> ok env) h
         ∙ (nested x (λ ty. refuseIf (differs ty (asTy t)) (sema at 1)) (ok env)
         ∙ (ap (λ (y : Checking Ty). y >>= λ ty. refuseIf (differs ty (asTy t)) (sema at 1) >> ok env) q ∙ assign-opens e))
 
-    pub assign-unknown : g ≡ got.Missing → Whole (err (sema at 2))
+    pub assign-unknown : g ≡ nameType.Missing → Whole (err (sema at 2))
     unfolding assigned
     assign-unknown e = assign-opens e
 

@@ -4,15 +4,15 @@ ghost use mathlib.Core.Path.{_≡_};
 ghost use Rattle.definitions.specs.Grammar.{Class};
 ghost use Rattle.sheet.specs.Passed.{recordKind, stopOf};
 ghost use Rattle.contract_nodes.specs.Ready.{Ready, ReadyAll};
-ghost use Rattle.analyze_state.specs.Scene.{Scene, checkedOf};
-ghost use Rattle.analyze_stmts.specs.Stepped.{StmtHere, Holds, Room, withNames, afterChecked, boundsOn, StmtDone, StmtsDone};
+ghost use Rattle.analyze_state.specs.Scene.{Scene, bodyCheckOf};
+ghost use Rattle.analyze_stmts.specs.Stmts.{StmtHere, RoomForAll, Room, withNames, afterCheck, boundsOn, StmtChecked, SpanChecked};
 use analyze_env::Ty;
 use analyze_env::insert;
 use analyze_env::undo;
 use analyze_exprs::Typed;
 use analyze_exprs::analyze_expr;
 use analyze_state::Analyzer;
-use analyze_state::Checked;
+use analyze_state::BodyCheck;
 use analyze_state::SemaError;
 use contract_lookup::name_at;
 use format::HEAD;
@@ -25,7 +25,7 @@ use reader::read;
 mod plain; // statements that declare no name and have no statements in them
 
 // After a statement, or statements: how many names are known, or an error.
-pub enum Stepped {
+pub enum KnownNames {
     Next(usize),
     Refused(SemaError),
 }
@@ -50,12 +50,12 @@ fn knowing(ctx: Analyzer, names: usize) -> Analyzer
 }
 
 // A statement that declares no name.
-fn after_plain(checked: Checked, names: usize) -> Stepped
-    ensures { λ r. ⌜ r ≡ afterChecked checked names ⌝ }
+fn after_plain(checked: BodyCheck, names: usize) -> KnownNames
+    ensures { λ r. ⌜ r ≡ afterCheck checked names ⌝ }
 {
     match checked {
-        Checked::Passed => Stepped::Next(names),
-        Checked::Failed(e) => Stepped::Refused(e),
+        BodyCheck::Passed => KnownNames::Next(names),
+        BodyCheck::Failed(e) => KnownNames::Refused(e),
     }
 }
 
@@ -69,16 +69,16 @@ fn analyze_let(
     structs: &[u32],
     functions: &[u32],
     ctx: Analyzer,
-) -> Stepped
+) -> KnownNames
     requires { ⌜ StmtHere (now s) at depth × (Scene (now s) (now entries) (now heads) (now structs) (now functions) ctx × (recordKind (now s) at ≡ 10)) ⌝ }
-    requires { ⌜ Holds (now s) (now entries) × Room (ctx .names) at ⌝ }
-    ensures { λ r. ⌜ StmtDone (now (s .entry)) at (now (entries .entry)) (now (heads .entry)) ctx (now (entries .exit)) (now (heads .exit)) r ⌝ }
+    requires { ⌜ RoomForAll (now s) (now entries) × Room (ctx .names) at ⌝ }
+    ensures { λ r. ⌜ StmtChecked (now (s .entry)) at (now (entries .entry)) (now (heads .entry)) ctx (now (entries .exit)) (now (heads .exit)) r ⌝ }
 {
     let value = at + contract::AFTER_NAME;
     let typed = analyze_expr(s, value, depth - 1, entries, heads, structs, functions, ctx);
     match typed {
-        Typed::Type(t) => Stepped::Next(insert(entries, heads, ctx.names, name_at(s, at), t)),
-        Typed::Refused(e) => Stepped::Refused(e),
+        Typed::Type(t) => KnownNames::Next(insert(entries, heads, ctx.names, name_at(s, at), t)),
+        Typed::Refused(e) => KnownNames::Refused(e),
     }
 }
 
@@ -92,10 +92,10 @@ fn analyze_if(
     structs: &[u32],
     functions: &[u32],
     ctx: Analyzer,
-) -> Stepped
+) -> KnownNames
     requires { ⌜ StmtHere (now s) at depth × (Scene (now s) (now entries) (now heads) (now structs) (now functions) ctx × (recordKind (now s) at ≡ 15)) ⌝ }
-    requires { ⌜ Holds (now s) (now entries) × Room (ctx .names) at ⌝ }
-    ensures { λ r. ⌜ StmtDone (now (s .entry)) at (now (entries .entry)) (now (heads .entry)) ctx (now (entries .exit)) (now (heads .exit)) r ⌝ }
+    requires { ⌜ RoomForAll (now s) (now entries) × Room (ctx .names) at ⌝ }
+    ensures { λ r. ⌜ StmtChecked (now (s .entry)) at (now (entries .entry)) (now (heads .entry)) ctx (now (entries .exit)) (now (heads .exit)) r ⌝ }
 {
     let test = at + HEAD;
     let stop = at + read(s, at, 4);
@@ -110,7 +110,7 @@ fn analyze_if(
             };
             let arm = analyze_stmts(s, span, depth - 2, entries, heads, structs, functions, ctx);
             match arm {
-                Stepped::Next(names) => {
+                KnownNames::Next(names) => {
                     let from = if else_at < stop { else_at + HEAD } else { stop };
                     let span = Span { from, end: stop };
                     let inside = knowing(ctx, names);
@@ -125,10 +125,10 @@ fn analyze_if(
                         inside,
                     )
                 }
-                Stepped::Refused(e) => Stepped::Refused(e),
+                KnownNames::Refused(e) => KnownNames::Refused(e),
             }
         }
-        Typed::Refused(e) => Stepped::Refused(e),
+        Typed::Refused(e) => KnownNames::Refused(e),
     }
 }
 
@@ -142,10 +142,10 @@ fn analyze_while(
     structs: &[u32],
     functions: &[u32],
     ctx: Analyzer,
-) -> Stepped
+) -> KnownNames
     requires { ⌜ StmtHere (now s) at depth × (Scene (now s) (now entries) (now heads) (now structs) (now functions) ctx × (recordKind (now s) at ≡ 16)) ⌝ }
-    requires { ⌜ Holds (now s) (now entries) × Room (ctx .names) at ⌝ }
-    ensures { λ r. ⌜ StmtDone (now (s .entry)) at (now (entries .entry)) (now (heads .entry)) ctx (now (entries .exit)) (now (heads .exit)) r ⌝ }
+    requires { ⌜ RoomForAll (now s) (now entries) × Room (ctx .names) at ⌝ }
+    ensures { λ r. ⌜ StmtChecked (now (s .entry)) at (now (entries .entry)) (now (heads .entry)) ctx (now (entries .exit)) (now (heads .exit)) r ⌝ }
 {
     let test = at + HEAD;
     let stop = at + read(s, at, 4);
@@ -159,7 +159,7 @@ fn analyze_while(
             };
             analyze_stmts(s, span, depth - 2, entries, heads, structs, functions, ctx)
         }
-        Typed::Refused(e) => Stepped::Refused(e),
+        Typed::Refused(e) => KnownNames::Refused(e),
     }
 }
 
@@ -173,10 +173,10 @@ fn analyze_for(
     structs: &[u32],
     functions: &[u32],
     ctx: Analyzer,
-) -> Stepped
+) -> KnownNames
     requires { ⌜ StmtHere (now s) at depth × (Scene (now s) (now entries) (now heads) (now structs) (now functions) ctx × (recordKind (now s) at ≡ 17)) ⌝ }
-    requires { ⌜ Holds (now s) (now entries) × Room (ctx .names) at ⌝ }
-    ensures { λ r. ⌜ StmtDone (now (s .entry)) at (now (entries .entry)) (now (heads .entry)) ctx (now (entries .exit)) (now (heads .exit)) r ⌝ }
+    requires { ⌜ RoomForAll (now s) (now entries) × Room (ctx .names) at ⌝ }
+    ensures { λ r. ⌜ StmtChecked (now (s .entry)) at (now (entries .entry)) (now (heads .entry)) ctx (now (entries .exit)) (now (heads .exit)) r ⌝ }
 {
     let start = at + contract::AFTER_NAME;
     let stop = at + read(s, at, 4);
@@ -184,7 +184,7 @@ fn analyze_for(
     let body_at = end_at + read(s, end_at, 4);
     let mark = ctx.names;
     match bounds(s, start, depth - 1, entries, heads, structs, functions, ctx) {
-        Checked::Passed => {
+        BodyCheck::Passed => {
             let u64 = Ty::Known(IrType::U64);
             let names = insert(entries, heads, mark, name_at(s, at), u64);
             let span = Span {
@@ -203,14 +203,14 @@ fn analyze_for(
                 inside,
             );
             match body {
-                Stepped::Next(names) => {
+                KnownNames::Next(names) => {
                     undo(entries, heads, names, mark);
-                    Stepped::Next(mark)
+                    KnownNames::Next(mark)
                 }
-                Stepped::Refused(e) => Stepped::Refused(e),
+                KnownNames::Refused(e) => KnownNames::Refused(e),
             }
         }
-        Checked::Failed(e) => Stepped::Refused(e),
+        BodyCheck::Failed(e) => KnownNames::Refused(e),
     }
 }
 
@@ -224,10 +224,10 @@ fn bounds(
     structs: &[u32],
     functions: &[u32],
     ctx: Analyzer,
-) -> Checked
+) -> BodyCheck
     requires { ⌜ Ready Class.expression (now s) at depth × Ready Class.expression (now s) (stopOf (now s) at) depth ⌝ }
     requires { ⌜ Scene (now s) (now entries) (now heads) (now structs) (now functions) ctx ⌝ }
-    ensures { λ r. ⌜ checkedOf r ≡ boundsOn (now (s .entry)) at (now (entries .entry)) ctx ⌝ }
+    ensures { λ r. ⌜ bodyCheckOf r ≡ boundsOn (now (s .entry)) at (now (entries .entry)) ctx ⌝ }
 {
     let first = analyze_expr(s, at, depth, entries, heads, structs, functions, ctx);
     match first {
@@ -244,7 +244,7 @@ fn bounds(
                 ctx,
             ))
         }
-        Typed::Refused(e) => Checked::Failed(e),
+        Typed::Refused(e) => BodyCheck::Failed(e),
     }
 }
 
@@ -258,10 +258,10 @@ fn analyze_stmt(
     structs: &[u32],
     functions: &[u32],
     ctx: Analyzer,
-) -> Stepped
+) -> KnownNames
     requires { ⌜ StmtHere (now s) at depth × Scene (now s) (now entries) (now heads) (now structs) (now functions) ctx ⌝ }
-    requires { ⌜ Holds (now s) (now entries) × Room (ctx .names) at ⌝ }
-    ensures { λ r. ⌜ StmtDone (now (s .entry)) at (now (entries .entry)) (now (heads .entry)) ctx (now (entries .exit)) (now (heads .exit)) r ⌝ }
+    requires { ⌜ RoomForAll (now s) (now entries) × Room (ctx .names) at ⌝ }
+    ensures { λ r. ⌜ StmtChecked (now (s .entry)) at (now (entries .entry)) (now (heads .entry)) ctx (now (entries .exit)) (now (heads .exit)) r ⌝ }
 {
     let names = ctx.names;
     let kind = read(s, at + KIND, 2);
@@ -311,24 +311,24 @@ pub fn analyze_stmts(
     structs: &[u32],
     functions: &[u32],
     ctx: Analyzer,
-) -> Stepped
+) -> KnownNames
     requires { ⌜ ReadyAll Class.statement (now s) (span .from) (span .end) depth × Scene (now s) (now entries) (now heads) (now structs) (now functions) ctx ⌝ }
-    requires { ⌜ Holds (now s) (now entries) × Room (ctx .names) (span .from) ⌝ }
-    ensures { λ r. ⌜ StmtsDone (now (s .entry)) (span .from) (span .end) (now (entries .entry)) (now (heads .entry)) ctx (now (entries .exit)) (now (heads .exit)) r ⌝ }
+    requires { ⌜ RoomForAll (now s) (now entries) × Room (ctx .names) (span .from) ⌝ }
+    ensures { λ r. ⌜ SpanChecked (now (s .entry)) (span .from) (span .end) (now (entries .entry)) (now (heads .entry)) ctx (now (entries .exit)) (now (heads .exit)) r ⌝ }
 {
     let mut names = ctx.names;
     let mut place = span.from;
     while place < span.end {
         let now = knowing(ctx, names);
         match analyze_stmt(s, place, depth, entries, heads, structs, functions, now) {
-            Stepped::Next(more) => {
+            KnownNames::Next(more) => {
                 names = more;
             }
-            Stepped::Refused(e) => {
-                return Stepped::Refused(e);
+            KnownNames::Refused(e) => {
+                return KnownNames::Refused(e);
             }
         }
         place += read(s, place, 4);
     }
-    Stepped::Next(names)
+    KnownNames::Next(names)
 }

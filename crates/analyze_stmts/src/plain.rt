@@ -3,19 +3,19 @@ ghost use mathlib.Core.Path.{_≡_};
 ghost use Rattle.definitions.specs.Grammar.{Class};
 ghost use Rattle.sheet.specs.Passed.{recordKind};
 ghost use Rattle.contract_nodes.specs.Ready.{Ready};
-ghost use Rattle.analyze_state.specs.Scene.{Scene, checkedOf};
+ghost use Rattle.analyze_state.specs.Scene.{Scene, bodyCheckOf};
 ghost use Rattle.ir.specs.Types.{asType};
 ghost use Rattle.analyze_env.specs.Known.{asTy};
 ghost use Rattle.analyze_exprs.specs.Typed.{typedOf};
-ghost use Rattle.analyze_stmts.specs.Stepped.{StmtHere, dropType, assignOn, returnOn, Plain};
-use analyze_env::Got;
+ghost use Rattle.analyze_stmts.specs.Stmts.{StmtHere, dropType, assignOn, returnOn, Plain};
+use analyze_env::NameType;
 use analyze_env::Ty;
 use analyze_env::differs;
 use analyze_env::lookup;
 use analyze_exprs::Typed;
 use analyze_exprs::analyze_expr;
 use analyze_state::Analyzer;
-use analyze_state::Checked;
+use analyze_state::BodyCheck;
 use analyze_state::SemaError;
 use contract_lookup::name_at;
 use format::HEAD;
@@ -24,12 +24,12 @@ use ir::IrType;
 use reader::read;
 
 // Whether an expression has a type; which, is not asked.
-pub(crate) fn typed_at_all(typed: Typed) -> Checked
-    ensures { λ r. ⌜ checkedOf r ≡ dropType (typedOf typed) ⌝ }
+pub(crate) fn typed_at_all(typed: Typed) -> BodyCheck
+    ensures { λ r. ⌜ bodyCheckOf r ≡ dropType (typedOf typed) ⌝ }
 {
     match typed {
-        Typed::Type(_) => Checked::Passed,
-        Typed::Refused(e) => Checked::Failed(e),
+        Typed::Type(_) => BodyCheck::Passed,
+        Typed::Refused(e) => BodyCheck::Failed(e),
     }
 }
 
@@ -43,9 +43,9 @@ pub(crate) fn analyze_constrain(
     structs: &[u32],
     functions: &[u32],
     ctx: Analyzer,
-) -> Checked
+) -> BodyCheck
     requires { ⌜ StmtHere (now s) at depth × (Scene (now s) (now entries) (now heads) (now structs) (now functions) ctx × (recordKind (now s) at ≡ 11)) ⌝ }
-    ensures { λ r. ⌜ Plain (now (s .entry)) at (now (entries .entry)) ctx (checkedOf r) ⌝ }
+    ensures { λ r. ⌜ Plain (now (s .entry)) at (now (entries .entry)) ctx (bodyCheckOf r) ⌝ }
 {
     typed_at_all(analyze_expr(
         s,
@@ -60,17 +60,17 @@ pub(crate) fn analyze_constrain(
 }
 
 // A value assigned to a variable of a type, by what came of it.
-fn assign_fits(at: usize, expected: Ty, typed: Typed) -> Checked
-    ensures { λ r. ⌜ checkedOf r ≡ assignOn at (asTy expected) (typedOf typed) ⌝ }
+fn assign_fits(at: usize, expected: Ty, typed: Typed) -> BodyCheck
+    ensures { λ r. ⌜ bodyCheckOf r ≡ assignOn at (asTy expected) (typedOf typed) ⌝ }
 {
     match typed {
         Typed::Type(t) => {
             if differs(t, expected) {
-                return Checked::Failed(SemaError::AssignMismatch(at));
+                return BodyCheck::Failed(SemaError::AssignMismatch(at));
             }
-            Checked::Passed
+            BodyCheck::Passed
         }
-        Typed::Refused(e) => Checked::Failed(e),
+        Typed::Refused(e) => BodyCheck::Failed(e),
     }
 }
 
@@ -84,17 +84,17 @@ pub(crate) fn analyze_assign(
     structs: &[u32],
     functions: &[u32],
     ctx: Analyzer,
-) -> Checked
+) -> BodyCheck
     requires { ⌜ StmtHere (now s) at depth × (Scene (now s) (now entries) (now heads) (now structs) (now functions) ctx × (recordKind (now s) at ≡ 12)) ⌝ }
-    ensures { λ r. ⌜ Plain (now (s .entry)) at (now (entries .entry)) ctx (checkedOf r) ⌝ }
+    ensures { λ r. ⌜ Plain (now (s .entry)) at (now (entries .entry)) ctx (bodyCheckOf r) ⌝ }
 {
     match lookup(entries, heads, ctx.names, name_at(s, at)) {
-        Got::Type(expected) => {
+        NameType::Type(expected) => {
             let value = at + contract::AFTER_NAME;
             let typed = analyze_expr(s, value, depth - 1, entries, heads, structs, functions, ctx);
             assign_fits(at, expected, typed)
         }
-        Got::Missing => Checked::Failed(SemaError::UndefinedVariable(at)),
+        NameType::Missing => BodyCheck::Failed(SemaError::UndefinedVariable(at)),
     }
 }
 
@@ -108,9 +108,9 @@ pub(crate) fn analyze_storage_write(
     structs: &[u32],
     functions: &[u32],
     ctx: Analyzer,
-) -> Checked
+) -> BodyCheck
     requires { ⌜ StmtHere (now s) at depth × (Scene (now s) (now entries) (now heads) (now structs) (now functions) ctx × (recordKind (now s) at ≡ 13)) ⌝ }
-    ensures { λ r. ⌜ Plain (now (s .entry)) at (now (entries .entry)) ctx (checkedOf r) ⌝ }
+    ensures { λ r. ⌜ Plain (now (s .entry)) at (now (entries .entry)) ctx (bodyCheckOf r) ⌝ }
 {
     typed_at_all(analyze_expr(
         s,
@@ -134,9 +134,9 @@ pub(crate) fn analyze_mapping_write(
     structs: &[u32],
     functions: &[u32],
     ctx: Analyzer,
-) -> Checked
+) -> BodyCheck
     requires { ⌜ StmtHere (now s) at depth × (Scene (now s) (now entries) (now heads) (now structs) (now functions) ctx × (recordKind (now s) at ≡ 14)) ⌝ }
-    ensures { λ r. ⌜ Plain (now (s .entry)) at (now (entries .entry)) ctx (checkedOf r) ⌝ }
+    ensures { λ r. ⌜ Plain (now (s .entry)) at (now (entries .entry)) ctx (bodyCheckOf r) ⌝ }
 {
     let key = at + contract::AFTER_NAME;
     let typed = analyze_expr(s, key, depth - 1, entries, heads, structs, functions, ctx);
@@ -145,22 +145,22 @@ pub(crate) fn analyze_mapping_write(
             let value = key + read(s, key, 4);
             typed_at_all(analyze_expr(s, value, depth - 1, entries, heads, structs, functions, ctx))
         }
-        Typed::Refused(e) => Checked::Failed(e),
+        Typed::Refused(e) => BodyCheck::Failed(e),
     }
 }
 
 // A returned value, by what came of it, in a function of a return type.
-fn return_fits(at: usize, expected: IrType, typed: Typed) -> Checked
-    ensures { λ r. ⌜ checkedOf r ≡ returnOn at (asType expected) (typedOf typed) ⌝ }
+fn return_fits(at: usize, expected: IrType, typed: Typed) -> BodyCheck
+    ensures { λ r. ⌜ bodyCheckOf r ≡ returnOn at (asType expected) (typedOf typed) ⌝ }
 {
     match typed {
         Typed::Type(t) => {
             if differs(t, Ty::Known(expected)) {
-                return Checked::Failed(SemaError::ReturnMismatch(at));
+                return BodyCheck::Failed(SemaError::ReturnMismatch(at));
             }
-            Checked::Passed
+            BodyCheck::Passed
         }
-        Typed::Refused(e) => Checked::Failed(e),
+        Typed::Refused(e) => BodyCheck::Failed(e),
     }
 }
 
@@ -174,9 +174,9 @@ pub(crate) fn analyze_return(
     structs: &[u32],
     functions: &[u32],
     ctx: Analyzer,
-) -> Checked
+) -> BodyCheck
     requires { ⌜ StmtHere (now s) at depth × (Scene (now s) (now entries) (now heads) (now structs) (now functions) ctx × (recordKind (now s) at ≡ 18)) ⌝ }
-    ensures { λ r. ⌜ Plain (now (s .entry)) at (now (entries .entry)) ctx (checkedOf r) ⌝ }
+    ensures { λ r. ⌜ Plain (now (s .entry)) at (now (entries .entry)) ctx (bodyCheckOf r) ⌝ }
 {
     let value = at + HEAD;
     let expected = ctx.ret;
@@ -197,9 +197,9 @@ pub(crate) fn analyze_emit(
     structs: &[u32],
     functions: &[u32],
     ctx: Analyzer,
-) -> Checked
+) -> BodyCheck
     requires { ⌜ StmtHere (now s) at depth × (Scene (now s) (now entries) (now heads) (now structs) (now functions) ctx × (recordKind (now s) at ≡ 19)) ⌝ }
-    ensures { λ r. ⌜ Plain (now (s .entry)) at (now (entries .entry)) ctx (checkedOf r) ⌝ }
+    ensures { λ r. ⌜ Plain (now (s .entry)) at (now (entries .entry)) ctx (bodyCheckOf r) ⌝ }
 {
     let stop = at + read(s, at, 4);
     let mut arg = at + contract::AFTER_NAME;
@@ -208,12 +208,12 @@ pub(crate) fn analyze_emit(
         match typed {
             Typed::Type(_) => {}
             Typed::Refused(e) => {
-                return Checked::Failed(e);
+                return BodyCheck::Failed(e);
             }
         }
         arg += read(s, arg, 4);
     }
-    Checked::Passed
+    BodyCheck::Passed
 }
 
 // An expression as a statement.
@@ -226,9 +226,9 @@ pub(crate) fn analyze_expr_stmt(
     structs: &[u32],
     functions: &[u32],
     ctx: Analyzer,
-) -> Checked
+) -> BodyCheck
     requires { ⌜ StmtHere (now s) at depth × (Scene (now s) (now entries) (now heads) (now structs) (now functions) ctx × (recordKind (now s) at ≡ 20)) ⌝ }
-    ensures { λ r. ⌜ Plain (now (s .entry)) at (now (entries .entry)) ctx (checkedOf r) ⌝ }
+    ensures { λ r. ⌜ Plain (now (s .entry)) at (now (entries .entry)) ctx (bodyCheckOf r) ⌝ }
 {
     typed_at_all(analyze_expr(
         s,

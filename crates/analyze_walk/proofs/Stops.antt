@@ -16,7 +16,7 @@ use Rattle.definitions.specs.Ir.{IrType}
 use Rattle.definitions.specs.Sema.{fromStr, returnType}
 use Rattle.definitions.specs.Lower.{structNamed}
 use Rattle.definitions.specs.Analyze.{Ty, known, Unknown, U64, differs, SemaError, Pushing, pushing, pushedBefore, _>>=_, _>>_, give, push, pushIf, orPush, Env, insert, get, fieldType, Signature, signatureNamed, paramEnv, identType, accessType, checkField, checkArgs, callType, analyzeExpr, analyzeFields, analyzeArgs, analyzeReturn, analyzeStmt, analyzeStmts, analyzeElse, analyzeFunction, analyzeFunctions, firstError, analyze}
-use Rattle.analyze_walk.specs.Stops.{Checking, sema, refuseIf, accessIn, access, agree, call, checkExpr, checkFields, checkArguments, checkReturn, checkStmt, checkStmts, checkElse, checkFunction, checkFunctions}
+use Rattle.analyze_walk.specs.Stops.{Checking, sema, refuseIf, accessStruct, access, agree, call, checkExpr, checkFields, checkArguments, checkReturn, checkStmt, checkStmts, checkElse, checkFunction, checkFunctions}
 
 -- STEPS
 -- r is what m gives, or the refusal for the first error that it pushes
@@ -71,7 +71,7 @@ unfolding identType
 ident p n (some ty) = given ty
 ident p n none = ends (SemaError.UndefinedIdentifier p n) (give Unknown)
 
-field-in : (p f s : ℕ) (o : Option (ℕ × Struct)) → Gives (collected.accessIn p f s o) (accessIn p f o)
+field-in : (p f s : ℕ) (o : Option (ℕ × Struct)) → Gives (collected.accessIn p f s o) (accessStruct p f o)
 field-in p f s none = given Unknown
 field-in p f s (some decl) = found (fieldType (decl .1 .fields) f) (SemaError.NoSuchField p s f) (λ d. give (known (fromStr (d .1 .ty)))) (give Unknown) (λ d. ok (known (fromStr (d .1 .ty)))) (λ d. given (known (fromStr (d .1 .ty))))
 

@@ -26,14 +26,14 @@ refuseIf true e = err e
 refuseIf false e = ok tt
 
 -- the field of a struct, which is declared or not
-abbrev pub accessIn : ℕ → ℕ → Option (ℕ × Struct) → Checking Ty
-accessIn p f none = ok Unknown
-accessIn p f (some decl) = do
+abbrev pub accessStruct : ℕ → ℕ → Option (ℕ × Struct) → Checking Ty
+accessStruct p f none = ok Unknown
+accessStruct p f (some decl) = do
   field ← okOrElse (fieldType (decl .1 .fields) f) (sema p 5)
   ok (known (fromStr (field .1 .ty)))
 
 unfoldable pub access : Contract → ℕ → ℕ → Ty → Checking Ty
-access K p f (known (IrType.Struct s)) = accessIn p f (structNamed K s)
+access K p f (known (IrType.Struct s)) = accessStruct p f (structNamed K s)
 access K p f (known IrType.U64) = err (sema p 6)
 access K p f (known IrType.BoolT) = err (sema p 6)
 access K p f (known IrType.FieldT) = err (sema p 6)

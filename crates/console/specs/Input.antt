@@ -6,6 +6,6 @@ use Rattle.console.specs.declared.Input.{Input}
 use Rattle.console.specs.declared.Input.the-variants.{Read, Failed}
 
 -- the bytes that were read stand at the start of the buffer
-abbrev pub Within : Input → List ℕ → Type 0
-Within (Read n) buf = Counts n buf
-Within Failed buf = Unit {0}
+abbrev pub InputFits : Input → List ℕ → Type 0
+InputFits (Read n) buf = Counts n buf
+InputFits Failed buf = Unit {0}

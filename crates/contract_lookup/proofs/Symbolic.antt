@@ -12,7 +12,7 @@ use Rattle.definitions.specs.Sema as sema
 use Rattle.sheet.specs.Passed.{ContractPassed}
 use Rattle.contract_nodes.proofs.Tops.{contract-at}
 use Rattle.contract_lookup.specs.declared.Found.{Found}
-use Rattle.contract_lookup.specs.Answers.{foundIn, treeName, slotNamed, signatureNamed, lastOf}
+use Rattle.contract_lookup.specs.Answers.{foundIn, treeName, slotNamed, idNamed, lastOf}
 use Rattle.contract_lookup.proofs.Lasts.{over-second, in-table}
 
 -- the names of the three tables
@@ -50,10 +50,10 @@ unfolding slotNamed
 no-slot K n e = rw e
 
 -- a signature
-pub signature-here : {i : ℕ} {g : Function} {t : defs.IrType} (K : Contract) (n : ℕ) → sema.functionNamed K n ≡ some (i, g) → t ≡ sema.returnType (g .returnType) → some (i, t) ≡ signatureNamed K n
-unfolding signatureNamed
+pub signature-here : {i : ℕ} {g : Function} {t : defs.IrType} (K : Contract) (n : ℕ) → sema.functionNamed K n ≡ some (i, g) → t ≡ sema.returnType (g .returnType) → some (i, t) ≡ idNamed K n
+unfolding idNamed
 signature-here {i} K n e q = rw e (ap (λ (x : defs.IrType). some (i, x)) q)
 
-pub no-signature : (K : Contract) (n : ℕ) → sema.functionNamed K n ≡ none → none ≡ signatureNamed K n
-unfolding signatureNamed
+pub no-signature : (K : Contract) (n : ℕ) → sema.functionNamed K n ≡ none → none ≡ idNamed K n
+unfolding idNamed
 no-signature K n e = rw e

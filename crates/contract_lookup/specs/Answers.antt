@@ -91,12 +91,12 @@ fieldTypeOf (fieldType.Type t) = some (asType t)
 fieldTypeOf fieldType.Missing = none
 
 -- a function's id and the type of a call of it
-abbrev pub signatureIn : Option (ℕ × Function) → Option (ℕ × defs.IrType)
-signatureIn none = none
-signatureIn (some p) = some (p .0, sema.returnType (p .1 .returnType))
+abbrev pub idIn : Option (ℕ × Function) → Option (ℕ × defs.IrType)
+idIn none = none
+idIn (some p) = some (p .0, sema.returnType (p .1 .returnType))
 
-unfoldable pub signatureNamed : Contract → ℕ → Option (ℕ × defs.IrType)
-signatureNamed K n = signatureIn (sema.functionNamed K n)
+unfoldable pub idNamed : Contract → ℕ → Option (ℕ × defs.IrType)
+idNamed K n = idIn (sema.functionNamed K n)
 
 abbrev pub signatureOf : Signature → Option (ℕ × defs.IrType)
 signatureOf (signature.At f t) = some (f .0, asType t)

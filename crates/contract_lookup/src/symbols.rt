@@ -12,7 +12,7 @@ ghost use Rattle.ir.specs.Types.{asType};
 ghost use Rattle.sheet.specs.Passed.{recordKind, stopOf};
 ghost use Rattle.contract_nodes.specs.Ready.{Ready, topClass, treeAt};
 ghost use Rattle.sheet.specs.Passed.{ContractPassed};
-ghost use Rattle.contract_lookup.specs.Answers.{foundIn, foundOf, storedAt, StandsAt, lastOf, slotOf, slotNamed, positionOf, fieldTypeOf, fieldTypeNamed, signatureOf, signatureNamed};
+ghost use Rattle.contract_lookup.specs.Answers.{foundIn, foundOf, storedAt, StandsAt, lastOf, slotOf, slotNamed, positionOf, fieldTypeOf, fieldTypeNamed, signatureOf, idNamed};
 use crate::FieldType;
 use crate::Found;
 use crate::Position;
@@ -204,7 +204,7 @@ pub fn field_type(s: &[u8], at: usize, name: Name) -> FieldType
 // A function's id, which is its position, and the type of a call of it.
 pub fn signature(s: &[u8], name: Name) -> Signature
     requires { ⌜ ContractPassed (now s) ⌝ }
-    ensures { λ r. ⌜ signatureOf r ≡ signatureNamed (readContract (now (s .entry))) (name .0) ⌝ }
+    ensures { λ r. ⌜ signatureOf r ≡ idNamed (readContract (now (s .entry))) (name .0) ⌝ }
 {
     match last_named(s, kinds::FUNCTION, name) {
         Found::At(i, place) => Signature::At(
@@ -218,7 +218,7 @@ pub fn signature(s: &[u8], name: Name) -> Signature
 // The id of the last function of a name; 0 if there is none.
 pub fn last_function(s: &[u8], name: Name) -> FunctionId
     requires { ⌜ ContractPassed (now s) ⌝ }
-    ensures { λ r. ⌜ ((i : ℕ) (t : defs.IrType) → signatureNamed (readContract (now (s .entry))) (name .0) ≡ some (i, t) → r .0 ≡ i) ⌝ }
+    ensures { λ r. ⌜ ((i : ℕ) (t : defs.IrType) → idNamed (readContract (now (s .entry))) (name .0) ≡ some (i, t) → r .0 ≡ i) ⌝ }
 {
     match signature(s, name) {
         Signature::At(function, _) => function,

@@ -9,7 +9,7 @@ use borrow.Author.Tests.{leb-true}
 use Rattle.definitions.specs.Fields.{le}
 use Rattle.definitions.specs.Ast.{enil, econs, snil, scons}
 use Rattle.definitions.specs.Grammar.{Class, Entry, upTo, Field, single, Pattern, done, one, perhaps, many, rows}
-use Rattle.definitions.specs.Records.{mayEnd, small, Value, item, sizeOf, okItem, readItem, pastAll, fieldsEnd, readValues, row, rowIn, rowFields, Good, Tree, node, Trees, tnil, tcons, readRecords}
+use Rattle.definitions.specs.Records.{mayEnd, small, FieldValue, item, sizeOf, okItem, readItem, pastAll, fieldsEnd, readValues, row, rowIn, rowFields, Good, Tree, node, Trees, tnil, tcons, readRecords}
 use Rattle.definitions.specs.ContractSheet.{countTrees, Counts, noneBefore, andThis, Measured, limitTree, limitTrees, exprOf, exprsOf, stmtOf, stmtsOf}
 use Rattle.definitions.proofs.Contracts.Limits.{Within, measured, tree-within}
 use Rattle.definitions.specs.Fine.{Head, Fine}
@@ -17,7 +17,7 @@ use Rattle.definitions.proofs.Sheets.Passed.{both-good, read-end}
 use Rattle.definitions.proofs.Sheets.Lines.{OfRows}
 use Rattle.definitions.proofs.Sheets.Singles.{itemsFrom, after, Valid, Starts, starts}
 use Rattle.definitions.proofs.Sheets.Steps.{here, past, this, Step as Found, One, many-step, perhaps-step, one-step, done-ends, low}
-use Rattle.sheet.specs.Passed.{Node, recordKind, stopOf, bodyOf, valuesOf, childrenOf}
+use Rattle.sheet.specs.Passed.{Node, recordKind, stopOf, bodyOf, valuesAt, childrenOf}
 use Rattle.sheet.proofs.Nodes.{node-of, head-of}
 use Rattle.contract_nodes.specs.Ready.{treeAt, exprAt, exprsFrom, stmtAt, stmtsFrom, Ready, ReadyAll}
 
@@ -164,8 +164,8 @@ nothing-at {c} {s} e h r =
 
 -- INSIDE A RECORD: its limits, and its children
 pub not-over : {c : Class} {s : List ℕ} {at d : ℕ} (r : Ready c s at d)
-    → Within (measured (recordKind s at) (valuesOf s at) (childrenOf s at) (r .depth) (r .before)) × (limitTrees (childrenOf s at) (suc (r .depth)) noneBefore ≡ Good)
-not-over {s = s} {at = at} r = tree-within at (recordKind s at) (valuesOf s at) (childrenOf s at) (r .depth) (r .before) (r .limit)
+    → Within (measured (recordKind s at) (valuesAt s at) (childrenOf s at) (r .depth) (r .before)) × (limitTrees (childrenOf s at) (suc (r .depth)) noneBefore ≡ Good)
+not-over {s = s} {at = at} r = tree-within at (recordKind s at) (valuesAt s at) (childrenOf s at) (r .depth) (r .before) (r .limit)
 
 pub record Bounds (s : List ℕ) (at d : ℕ) : Type 0 where
   pub deep : 1 ≤ d
@@ -203,14 +203,14 @@ row-is n e = subst (λ (i : ℕ). rowIn i rows ≡ row (n .class) (n .fields) (n
 
 -- its first fields are the entries es, and fs are the others
 pub record Entries (es : List Entry) (fs : List Field) (s : List ℕ) (at : ℕ) : Type 0 where
-  pub values : valuesOf s at ≡ itemsFrom es s at 6 ++ readValues fs s (stopOf s at) (at + after es 6)
+  pub values : valuesAt s at ≡ itemsFrom es s at 6 ++ readValues fs s (stopOf s at) (at + after es 6)
   pub more : pastAll fs s (stopOf s at) (at + after es 6) ≡ some (bodyOf s at)
   pub body : bodyOf s at ≡ fieldsEnd fs s (stopOf s at) (at + after es 6)
   pub valid : Valid es s at 6
   pub fits : at + after es 6 ≤ stopOf s at
 
 pub entries : {s : List ℕ} {at end k : ℕ} (n : Node s at end) (es : List Entry) (fs : List Field) → recordKind s at ≡ k → rowFields (rowIn k rows) ≡ map single es ++ fs → Entries es fs s at
-unfolding valuesOf
+unfolding valuesAt
 entries {s} {at} n es fs e q =
     let f : rowFields (rowIn (recordKind s at) rows) ≡ map single es ++ fs = ap (λ (i : ℕ). rowFields (rowIn i rows)) e ∙ q in
     let S : Starts es fs s at (bodyOf s at) (stopOf s at) = starts es fs (rw q at (head-of n e)) in
@@ -268,7 +268,7 @@ plain {s = s} {at = at} {k = k} {d = d} p q r e =
 abbrev pub Limited : ℕ → Type 0
 Limited k = (r : Measured) → Within r → r .kind ≡ k → r .children < 17
 
-pub few : {c : Class} {s : List ℕ} {at k d : ℕ} {v : List Value} {ts : Trees} → Limited k → Ready c s at d → treeAt s at ≡ node at k v ts → countTrees ts ≤ 16
+pub few : {c : Class} {s : List ℕ} {at k d : ℕ} {v : List FieldValue} {ts : Trees} → Limited k → Ready c s at d → treeAt s at ≡ node at k v ts → countTrees ts ≤ 16
 few {c} {s} {at} {k} {d} {v} {ts} l r e =
     let g : limitTree (node at k v ts) (r .depth) (r .before) ≡ Good = ap (λ (t : Tree). limitTree t (r .depth) (r .before)) (sym e) ∙ r .limit in
     omega (arith, l (measured k v ts (r .depth) (r .before)) (tree-within at k v ts (r .depth) (r .before) g .0) refl)

@@ -14,7 +14,7 @@ use Rattle.definitions.specs.All.{All, anil, acons}
 use Rattle.definitions.specs.Fields.{le}
 use Rattle.definitions.specs.Ast.{Param}
 use Rattle.definitions.specs.Grammar.{Class, classNo, Entry, upTo, optional, nameAndType, Field, single, counted, listed, Pattern, done, one, many, rows}
-use Rattle.definitions.specs.Records.{Value, item, group, rest, okItem, okItems, readItem, readItems, readValue, readValues, sizeOf, fieldEnd, okField, pastAll, fieldsEnd, optFrom, row, rowIn, rowFields, Tree, node, Trees, tnil, tcons, readRecords, Good, checkRecords, numAt, optAt, itemsAt, gather}
+use Rattle.definitions.specs.Records.{FieldValue, item, group, rest, okItem, okItems, readItem, readItems, readValue, readValues, sizeOf, fieldEnd, okField, pastAll, fieldsEnd, optFrom, row, rowIn, rowFields, Tree, node, Trees, tnil, tcons, readRecords, Good, checkRecords, numAt, optAt, itemsAt, gather}
 use Rattle.definitions.specs.ContractSheet.{paramOf, paramsAt, storageOf, structOf, functionOf, contractOf, readContract, refusal3, refusal4, Counts, noneBefore, oneIf, limitTree, limitTrees}
 use Rattle.definitions.proofs.Contracts.Limits.{TopKind, storage, struct, function, mostOf, countOf, count-next, room-for, tree-within, within}
 use Rattle.definitions.specs.Fine.{Head, Fine}
@@ -23,7 +23,7 @@ use Rattle.definitions.proofs.Sheets.Reads.{items-count}
 use Rattle.definitions.proofs.Sheets.Lines.{OfRows, Given, by-lines}
 use Rattle.definitions.proofs.Sheets.Singles.{itemsFrom, after as afterAll, Valid, Counted, counted-field}
 use Rattle.definitions.proofs.Sheets.Steps.{Step, here, past as passed-over, many-step, One, this, one-step, done-ends}
-use Rattle.sheet.specs.Passed.{Node, recordKind, stopOf, bodyOf, valuesOf, childrenOf}
+use Rattle.sheet.specs.Passed.{Node, recordKind, stopOf, bodyOf, valuesAt, childrenOf}
 use Rattle.sheet.proofs.Nodes.{opens}
 use Rattle.contract_nodes.proofs.Children.{Entries, entries, row-is, by-row, not-over, kids-of, all-of}
 use Rattle.contract_nodes.specs.Ready.{treeAt, topClass, functionAt, stmtsFrom, paramsFrom, Ready, ReadyAll}
@@ -82,7 +82,7 @@ top-rising = (λ k h. acons h (acons {a = Class.struct} (omega arith) (acons {a 
 -- A RECORD whose first field is a name
 record Named (s : List ℕ) (at : ℕ) : Type 0 where
   long : at + 8 ≤ stopOf s at
-  is : numAt 0 (valuesOf s at) ≡ le 2 s (at + 6)
+  is : numAt 0 (valuesAt s at) ≡ le 2 s (at + 6)
   small : le 2 s (at + 6) ≤ 65534
 
 named-row : {fs : List Field} {s : List ℕ} {at : ℕ} → Entries (upTo 65534 ∷ []) fs s at → Named s at
@@ -109,7 +109,7 @@ pub record Top (s : List ℕ) (at : ℕ) (T : Tops s at) : Type 0 where
   pub kind : TopKind (recordKind s at)
   pub long : at + 8 ≤ stopOf s at
   pub inside : stopOf s at ≤ length s
-  pub name : numAt 0 (valuesOf s at) ≡ le 2 s (at + 6)
+  pub name : numAt 0 (valuesAt s at) ≡ le 2 s (at + 6)
   pub small : le 2 s (at + 6) ≤ 65534
   pub ready : {j : ℕ} → recordKind s at ≡ j → Ready (topClass j) s at 39
   pub read : readRecords s at (length s) ≡ tcons (treeAt s at) (readRecords s (stopOf s at) (length s))
@@ -152,7 +152,7 @@ next-top {s} {at} T l = go (T .classes) (T .each) (T .rising) (λ k o. o) (T .fi
           small = N .small;
           ready = λ {j} e. record { end = length s; node-at = n; class-is = y ∙ (sym (R .is) ∙ ap topClass (sym k ∙ e)); inside = omega arith; depth = 2; sum = refl; before = T .before; limit = g .0 };
           read = n .is;
-          room = room-for K (tree-within at (recordKind s at) (valuesOf s at) (childrenOf s at) 2 (T .before) (g .0) .0) refl;
+          room = room-for K (tree-within at (recordKind s at) (valuesAt s at) (childrenOf s at) 2 (T .before) (g .0) .0) refl;
           next = record { classes = c ∷ cs; each = Rs; rising = u; fine = rw (hd .stop-is) at more; before = _; limit = g .1 };
           over-here = λ j o. subst (λ (x : ℕ). j < x) (sym k) (first-over (among j o));
           over-next = λ j h. u .0 j (subst (λ (x : ℕ). j < x) k h);
@@ -199,9 +199,9 @@ contract-at {s} C = go (one-step Class.contract done f)
         let y : n .class ≡ Class.contract = cc in
         let l : readRecords s (length s) (length s) ≡ tnil = read-end s (length s) in
         let h : childrenOf s 0 ≡ readRecords s 8 (length s) = rw (w, z) in
-        let i : readRecords s 0 (length s) ≡ tcons (node 0 (recordKind s 0) (valuesOf s 0) (readRecords s 8 (length s))) (readRecords s (stopOf s 0) (length s)) = n .is ∙ ap (λ (ts : Trees). tcons (node 0 (recordKind s 0) (valuesOf s 0) ts) (readRecords s (stopOf s 0) (length s))) h in
+        let i : readRecords s 0 (length s) ≡ tcons (node 0 (recordKind s 0) (valuesAt s 0) (readRecords s 8 (length s))) (readRecords s (stopOf s 0) (length s)) = n .is ∙ ap (λ (ts : Trees). tcons (node 0 (recordKind s 0) (valuesAt s 0) ts) (readRecords s (stopOf s 0) (length s))) h in
         let g = both-good _ _ (subst (λ (ts : Trees). limitTrees ts 1 noneBefore ≡ Good) (n .is) (C .limits)) in
-        let m = tree-within 0 (recordKind s 0) (valuesOf s 0) (childrenOf s 0) 1 noneBefore (g .0) .1 in
+        let m = tree-within 0 (recordKind s 0) (valuesAt s 0) (childrenOf s 0) 1 noneBefore (g .0) .1 in
         record {
           long = omega (arith, w, z, n .head .mid);
           kind = k;
@@ -267,8 +267,8 @@ struct-at {s} {at} R =
     let k : recordKind s at ≡ 3 = by-row Numbered struct-kind R in
     let E : Entries (upTo 65534 ∷ []) (listed nameAndType ∷ []) s at = entries n (upTo 65534 ∷ []) (listed nameAndType ∷ []) k refl in
     let m : ℕ = (stopOf s at - (at + 8)) / 4 in
-    let v : valuesOf s at ≡ item (readItem (upTo 65534) s (at + 6)) ∷ rest (readItems nameAndType m s (at + 8)) ∷ [] = E .values in
-    let j : length (itemsAt 1 (valuesOf s at)) ≡ m = ap (λ (x : List Value). length (itemsAt 1 x)) v ∙ items-count nameAndType m s (at + 8) in
+    let v : valuesAt s at ≡ item (readItem (upTo 65534) s (at + 6)) ∷ rest (readItems nameAndType m s (at + 8)) ∷ [] = E .values in
+    let j : length (itemsAt 1 (valuesAt s at)) ≡ m = ap (λ (x : List FieldValue). length (itemsAt 1 x)) v ∙ items-count nameAndType m s (at + 8) in
     let l : at + 8 ≤ stopOf s at = E .fits in
     let y = listed-rest s (stopOf s at) (at + 8) (E .more) in
     let z : (stopOf s at - (at + 8)) % 4 ≡ 0 = y .0 in (
@@ -312,9 +312,9 @@ function-at {s} {at} {d} R =
     let C : Counted nameAndType [] s (stopOf s at) (at + 12) (bodyOf s at) = counted-field nameAndType [] s (stopOf s at) (at + 12) (E .more) in
     let m : ℕ = le 2 s (at + 12) in
     let e : at + 12 + 2 ≡ at + 14 = omega arith in
-    let v : valuesOf s at ≡ itemsFrom es s at 6 ++ (group (readItems nameAndType m s (at + 14)) ∷ []) = E .values ∙ ap (λ (x : ℕ). itemsFrom es s at 6 ++ (group (readItems nameAndType m s x) ∷ [])) e in
+    let v : valuesAt s at ≡ itemsFrom es s at 6 ++ (group (readItems nameAndType m s (at + 14)) ∷ []) = E .values ∙ ap (λ (x : ℕ). itemsFrom es s at 6 ++ (group (readItems nameAndType m s x) ∷ [])) e in
     let w : bodyOf s at ≡ bodyFrom s at = E .body ∙ ap (λ (x : ℕ). x + 4 * m) e in
-    let j : length (itemsAt 3 (valuesOf s at)) ≡ m = ap (λ (x : List Value). length (itemsAt 3 x)) v ∙ items-count nameAndType m s (at + 14) in
+    let j : length (itemsAt 3 (valuesAt s at)) ≡ m = ap (λ (x : List FieldValue). length (itemsAt 3 x)) v ∙ items-count nameAndType m s (at + 14) in
     let r : row Class.function (single (upTo 65534) ∷ single optional ∷ single (upTo 1) ∷ counted nameAndType ∷ []) (many Class.statement done) ≡ row (n .class) (n .fields) (n .pattern) = row-is n k in
     let p : n .pattern ≡ many Class.statement done = cc in
     record {

@@ -11,11 +11,11 @@ use Rattle.definitions.specs.Grammar.{Class, many, done}
 use Rattle.definitions.specs.Records.{pick, Tree, node, readRecords, Good}
 use Rattle.definitions.specs.ContractSheet.{Counts, limitTree, limitTrees, exprOf, exprsOf, stmtOf, stmtsOf, functionOf}
 use Rattle.definitions.specs.Fine.{Fine}
-use Rattle.sheet.specs.Passed.{Node, recordKind, valuesOf, childrenOf}
+use Rattle.sheet.specs.Passed.{Node, recordKind, valuesAt, childrenOf}
 
 -- the record at a place, with all that is in it
 abbrev pub treeAt : List ℕ → ℕ → Tree
-treeAt s at = node at (recordKind s at) (valuesOf s at) (childrenOf s at)
+treeAt s at = node at (recordKind s at) (valuesAt s at) (childrenOf s at)
 
 abbrev pub exprAt : List ℕ → ℕ → Expr
 exprAt s at = exprOf (treeAt s at)

@@ -6,13 +6,13 @@ use Rattle.definitions.specs.Records.{typeFrom, okType, optFrom, sizeOf,
 use Rattle.definitions.specs.Analyze.{identType, accessType, checkField, checkArgs, callType, analyzeExpr, analyzeReturn, analyzeStmt, analyzeFunction, analyzeFunctions, analyze}
 use Rattle.definitions.specs.ContractSheet.{exprOf, stmtOf, functionOf, contractOf, readContract, refusal3, countTrees, over, limitTree, refusal4}
 use Rattle.definitions.specs.Answers.{analyzeSheet}
-use Rattle.definitions.specs.AnalyzeRows.{Holds, analyzed, AnalyzeRowsHold}
+use Rattle.definitions.specs.AnalyzeRows.{AnalyzesTo, analyzed, AnalyzeRowsHold}
 use Rattle.definitions.proofs.All.{all-of}
 
 pub analyze-rows-hold : AnalyzeRowsHold
 unfolding le rows typeFrom okType optFrom sizeOf okItem readItem okItems readItems fieldEnd okField past readValue pastAll fieldsEnd readValues rowIn rowFields after mayEnd startIf startRow startAt andThen checkRest recordsFrom checkRecords readNode treesFrom readRecords identType accessType checkField checkArgs callType analyzeExpr analyzeReturn analyzeStmt analyzeFunction analyzeFunctions analyze exprOf stmtOf functionOf contractOf readContract refusal3 countTrees over limitTree refusal4 analyzeSheet
 analyze-rows-hold =
-    all-of Holds analyzed
+    all-of AnalyzesTo analyzed
     refl  -- A0
     refl  -- A1
     refl  -- A1b
@@ -32,3 +32,9 @@ analyze-rows-hold =
     refl  -- A19
     refl  -- A20
     refl  -- A21
+    refl  -- A14c
+    refl  -- A15b
+    refl  -- A15c
+    refl  -- A15d
+    refl  -- A22
+    refl  -- A23

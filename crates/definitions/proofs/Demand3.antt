@@ -1,7 +1,7 @@
 -- DEMAND 3 holds. Assumes nothing.
 use mathlib.Core.Path.{_≡_, refl, ap, sym, _∙_, subst}
 use mathlib.Core.Logic.{inl, inr}
-use mathlib.Core.Bool.{Bool, true, false, _&&_}
+use mathlib.Core.Bool.{_&&_}
 use mathlib.Core.List.{[]}
 use Prim.Native.Nat.{ℕ, _≤_}
 use lib.Dec.{leb}
@@ -16,7 +16,7 @@ use Rattle.definitions.specs.ContractSheet.{readContract, refusal3, refu
 use Rattle.definitions.specs.ProgramSheet.{writeProgram}
 use Rattle.definitions.specs.Answers.{Refusal, refusal, refuseForm, lowerRefusal, verifyRefusal, checkContract, lowerSheet, verifySheet}
 use Rattle.definitions.specs.Demand3.{NeverLacks, AcceptedOr45to47, Demand3Of, Demand3}
-use Rattle.definitions.proofs.Results.{ok-inj, err-ok, taking-then, taking-check}
+use Rattle.definitions.proofs.Results.{ok-inj, err-ok, taking-then, taking-check, both-true}
 use Rattle.definitions.proofs.Sheets.Passed.{fine}
 use Rattle.definitions.proofs.Runs.Functions.{run-never-lacks}
 use Rattle.definitions.proofs.Runs.Verifies.{Typing, Expected, verifier-expected}
@@ -60,10 +60,6 @@ accepted-walk : (r : Lowering IrProgram) {B G : Type 0} (k : IrProgram → Resul
 accepted-walk (ok p) k e rest = rest p refl e
 accepted-walk (err x) k e rest = absurd (err-ok e)
 
-and-true : (a b : Bool) → (a && b) ≡ true → a ≡ true
-and-true true b e = refl
-and-true false b e = e
-
 pub demand3 : Demand3
 unfolding lowerSheet refusal3 checkRecords readContract
 demand3 s h room b e =
@@ -74,7 +70,7 @@ demand3 s h room b e =
     accepted-walk (lowerContract (readContract s)) _ e₃ λ p l e₄.
     taking-check (leb (length (writeProgram p)) 32768 && leb (length (writeProgram p)) room) (refusal 31 []) _ e₄ λ t e₅.
     let small : Small (readContract s) = sheet-small s _ h (fine _ s 0 (length s) _ g) g′ in
-    let short : length (writeProgram p) ≤ 32768 = leb-true _ _ (and-true _ _ t) in
+    let short : length (writeProgram p) ≤ 32768 = leb-true _ _ (both-true _ _ t) in
     let f : Fits p = lowered-fits (readContract s) p small l short in
     subst (Demand3Of s) (ok-inj e₅) (record {
       lowered = l ∙ ap ok (sym (round-trip p f));

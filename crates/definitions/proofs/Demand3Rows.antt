@@ -12,7 +12,7 @@ use Rattle.definitions.specs.Ir.{IrFunction}
 use Rattle.definitions.specs.Run.{Pick, State, at, ended, lacks, enter, follow, stepEntry, step, steps, start, run}
 use Rattle.definitions.specs.Answers.{Refusal, Answer}
 use Rattle.definitions.specs.Demand3.{NeverLacks, AcceptedOr45to47}
-use Rattle.definitions.specs.Demand3Rows.{Lacking, programOf, Refuted, lackingPrograms, LackingRefuted, fine, readsParameter, neverLacking, NeverLackingHold, takenAnswers, TakenAnswers, GivesProgram, GivesRuns, GivesAnswer, OfLowerSheet, GivesSheet, GivesContractSheet, GivesProgramSheet, BytesSay}
+use Rattle.definitions.specs.Demand3Rows.{Lacking, programWith, Refuted, lackingPrograms, LackingRefuted, fine, readsParameter, neverLacking, NeverLackingHold, takenAnswers, TakenAnswers, GivesProgram, GivesRuns, GivesAnswer, OfLowerSheet, GivesSheet, GivesContractSheet, GivesProgramSheet, BytesSay}
 use Rattle.definitions.proofs.All.{all-of}
 
 lacking : (l : Lacking) → length (l .words) ≡ length (l .function .params) → run (l .function) (l .words) (l .picks) ≡ lacks → Refuted l
@@ -59,7 +59,7 @@ parameter-runs [] n picks = absurd (omega (arith, n))
 parameter-runs (w ∷ ws) n [] = tt
 parameter-runs (w ∷ ws) n (p ∷ ps) = stays-ended readsParameter (w ∷ ws) ps
 
-only : (g : IrFunction) → ((words : List ℕ) → length words ≡ length (g .params) → (picks : List Pick) → run g words picks ≡ lacks → ⊥) → NeverLacks (programOf (g ∷ []))
+only : (g : IrFunction) → ((words : List ℕ) → length words ≡ length (g .params) → (picks : List Pick) → run g words picks ≡ lacks → ⊥) → NeverLacks (programWith (g ∷ []))
 only g h f m = of-case (List·Memᴰ·cases-cons m)
   where
     of-case : (f ≡ g) ⊎ List·Memᴰ f [] → (words : List ℕ) → length words ≡ length (f .params) → (picks : List Pick) → run f words picks ≡ lacks → ⊥

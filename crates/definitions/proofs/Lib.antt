@@ -18,3 +18,6 @@ pub mod InstrTable
 pub mod Readings
 pub mod AnalyzeRows
 pub mod AnalyzeExprRows
+pub mod Apart
+pub mod BenchRows
+pub mod BenchSheetRows

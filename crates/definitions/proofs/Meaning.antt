@@ -16,7 +16,7 @@ use Rattle.definitions.specs.ContractSheet.{exprOf, stmtOf, functionOf, 
 use Rattle.definitions.specs.ProgramSheet.{writeProgram, readProgram, refusal40}
 use Rattle.definitions.specs.Answers.{Refusal, Answer, lowerSheet, verifySheet}
 use Rattle.definitions.specs.Run.{State, at, ended, lacks, enter, follow, stepEntry, step, steps, start, run}
-use Rattle.definitions.specs.Rows.{Row}
+use Rattle.definitions.specs.Rows.{SheetRow}
 use Rattle.definitions.specs.RunRows.{OfAny}
 use Rattle.definitions.specs.ReadsRows.{Equal}
 use Rattle.definitions.specs.Meaning.{goingOn, hasEnded, hasLacked, noFunction, Ran, Runs, runRows, RunRowsHold, LackingProgramLacks, wrongPair, WrongRowsRefused}
@@ -27,10 +27,10 @@ unfolding le bytes rows typeFrom okType optFrom writeType writeItem sizeOf okIte
 run-rows-hold =
     all-of Runs runRows
     refl  -- returns
-    refl  -- empty
+    refl  -- emptyProgram
     refl  -- goesOn
     refl  -- leavesWhile
-    refl  -- leavesFor
+    refl  -- leavesLoop
     refl  -- assigns
     refl  -- letItself
     refl  -- closedScope
@@ -72,8 +72,8 @@ pair-refused h = apart (λ (n : ℕ). n) h refl refl
 pub wrong-rows-refused : WrongRowsRefused
 unfolding refused absent outcome lackedIn le bytes rows typeFrom okType optFrom writeType writeItem sizeOf okItem readItem writeItems okItems readItems writeValue fieldEnd okField past readValue writeValues pastAll fieldsEnd readValues rowIn rowFields after mayEnd startIf startRow startAt andThen checkRest recordsFrom checkRecords writeRecord writeTree readNode treesFrom readRecords freshValue withBlock freshBlock withLocal freshLocal pushInstr setTerminator switchTo currentBlockTerminated terminateIfOpen setScopes pushValue needValue lowerCall lowerExpr lowerExprValue threeBlocks initLocal lowerBody forHeader forStep unlessTerminated lowerReturn lowerStmt lowerParams lowerFunction lowerFunctions lowerContract defineParams defineResult defineResults defineBlocks checkValueRefs verifyInstr verifyInstrs verifyTerminator verifyBlock verifyBlocks verifyFunction verifyFunctions verifyProgram exprOf stmtOf functionOf contractOf readContract refusal3 countTrees over limitTree refusal4 writeProgram readProgram refusal40 lowerSheet verifySheet enter follow stepEntry step steps start run
 wrong-rows-refused = record {
-  sheet = λ h. apart (λ (r : Row). refused (r .lowered)) h refl refl;
-  verified = λ h. apart (λ (r : Row). absent (r .verified)) h refl refl;
+  sheet = λ h. apart (λ (r : SheetRow). refused (r .lowered)) h refl refl;
+  verified = λ h. apart (λ (r : SheetRow). absent (r .verified)) h refl refl;
   reading = λ h. apart refused (sym h) refl refl;
   run = λ h. apart lackedIn h refl refl;
   state = λ h. apart (λ (f : OfAny). outcome (f 0 0 IrType.U64 [])) h refl refl;

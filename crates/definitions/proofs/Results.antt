@@ -1,13 +1,15 @@
 -- Taking a computed `Result` apart. Assumes nothing.
-use Prim.Native.Nat.{ℕ, suc, _+_, _<_}
-use mathlib.Core.Path.{_≡_, refl, sym}
-use mathlib.Core.Bool.{Bool, true, false}
+use Prim.Native.Nat.{ℕ, zero, suc, _+_, _≤_, _<_}
+use mathlib.Core.Path.{_≡_, refl, sym, ap, _∙_}
+use mathlib.Core.Bool.{Bool, true, false, _&&_}
 use mathlib.Core.List.{List, [], _∷_}
 use mathlib.Core.Option.{Option, none, some}
 use native.Mathlib.Omega.{arith}
 use lib.Dec.{eqb}
-use lib.ListN.{length}
+use borrow.Author.Tests.{eqb-true, eqb-false}
+use lib.ListN.{length, take}
 use Rattle.definitions.specs.Names.{orThis, lastNamed, firstNamed}
+use Rattle.definitions.specs.Answers.{padded}
 use Rattle.definitions.specs.Result.{Result, err, ok, _>>=_, _>>_, okOrElse, check}
 
 pub some-none : {A : Type 0} (a : A) → some a ≡ none → ⊥
@@ -23,6 +25,18 @@ err-ok e = let z : _≡_ {A = ℕ} 0 1 = cc in omega arith
 pub by-test : {G : Type 0} (t : Bool) → (t ≡ true → G) → (t ≡ false → G) → G
 by-test true y n = y refl
 by-test false y n = n refl
+
+-- two numbers, likewise
+pub by-eq : {G : Type 0} (a b : ℕ) → (a ≡ b → G) → ((a ≡ b → ⊥) → G) → G
+by-eq a b same other = by-test (eqb a b) (λ q. same (eqb-true a b q)) (λ q. other (eqb-false a b q))
+
+pub both-true : (a b : Bool) → (a && b) ≡ true → a ≡ true
+both-true true b e = refl
+both-true false b e = e
+
+-- what is said of a value by a reading of it, said of the value that it was found to be
+pub told : {A B : Type 0} (f : A → B) {x y : A} {z : B} → x ≡ y → f x ≡ z → f y ≡ z
+told f q e = sym (ap f q) ∙ e
 
 -- What was found is handed to the rest of the proof, which then speaks of variables.
 pub taking : {E A B G : Type 0} (r : Result E A) (k : A → Result E B) {b : B} → (r >>= k) ≡ ok b → ((a : A) → r ≡ ok a → k a ≡ ok b → G) → G
@@ -57,3 +71,9 @@ first-below name i (a ∷ rs) n k e =
     by-test (eqb (name a) n)
     (λ q. let y : some i ≡ some k = rw (q, firstNamed) at e in let z : i ≡ k = cc in omega arith)
     (λ q. omega (arith, first-below name (suc i) rs n k (rw (q, firstNamed) at e)))
+
+-- what is written stands at the output's start
+pub take-padded : (n : ℕ) (l : List ℕ) → length l ≤ n → take (length l) (padded n l) ≡ l
+take-padded n [] h = refl
+take-padded zero (x ∷ l) h = absurd (omega arith)
+take-padded (suc n) (x ∷ l) h = ap (λ (r : List ℕ). x ∷ r) (take-padded n l (omega arith))

@@ -2,7 +2,7 @@
 -- fails. Assumes nothing.
 use mathlib.Core.Path.{refl}
 use Rattle.definitions.specs.Run.{enter, follow, stepEntry, step, steps, start, run}
-use Rattle.definitions.specs.RunRows.{Reaches, RowsReach, Steps, startRows, enterRows, visitRows, operandRows, localRows, resultRows, lackRows, endRows, stepsRows, stateRows, StateRowsHold, StepsRowsHold}
+use Rattle.definitions.specs.RunRows.{Reaches, RowsReach, StepsTo, startRows, enterRows, visitRows, operandRows, localRows, resultRows, lackRows, endRows, stepsRows, stateRows, StateRowsHold, StepsRowsHold}
 use Rattle.definitions.proofs.All.{all-of}
 
 start-rows-hold : RowsReach startRows
@@ -153,7 +153,7 @@ state-rows-hold = all-of RowsReach stateRows start-rows-hold enter-rows-hold vis
 pub steps-rows-hold : StepsRowsHold
 unfolding enter follow stepEntry step steps
 steps-rows-hold =
-    all-of Steps stepsRows
+    all-of StepsTo stepsRows
     refl  -- ofEarlierVisit
     refl  -- entersAgain
     refl  -- ofThisVisit

@@ -6,7 +6,7 @@ use lib.Dec.{leb, eqb}
 use lib.ListN.{length}
 use Rattle.definitions.specs.Ast.{BinOp, Expr, Exprs, enil, econs, FieldInits, fnil, fcons, OptExpr, absent, present, Stmt, Stmts, snil, scons, OptStmts, noElse, elseDo, StorageField, Param, Struct, Function, Contract}
 use Rattle.definitions.specs.Grammar.{Class, one, done}
-use Rattle.definitions.specs.Records.{pick, Item, small, opt, word, ty, param, pair, Value, item, group, rest, Tree, node, Trees, tnil, tcons, writeTree, readRecords, Form, Good, Bad, andThen, checkRecords, itemsAt, numAt, optAt, gather, treesOf, ReadsAll}
+use Rattle.definitions.specs.Records.{pick, Item, small, opt, word, ty, param, pair, FieldValue, item, group, rest, Tree, node, Trees, tnil, tcons, writeTree, readRecords, Form, Good, Bad, andThen, checkRecords, itemsAt, numAt, optAt, gather, treesOf, ReadsAll, u16}
 
 -- READING, of a sheet that passed refusal 3. The last case of a chain of tests has none: a comment says for which kind it stands. No other kind is met
 -- there: it would be written back as that kind, and `NothingOverlooked`, at the end of this file, says that writing gives the very bytes that were read.
@@ -39,7 +39,7 @@ fieldInitsOf (tcons (node at k v ts) more) (econs e es) = fcons at (numAt 0 v) e
 
 -- An expression by its place, kind, fields and children. The last is 6, a field's record, which stands for the expression in it (`NothingOverlooked`).
 -- A statement's blocks (5), and what is in them, come by here as well: what is made of them stands behind the statement's expressions and is not used.
-abbrev pub exprFrom : (place kind : ℕ) → List Value → Trees → Exprs → Expr
+abbrev pub exprFrom : (place kind : ℕ) → List FieldValue → Trees → Exprs → Expr
 exprFrom at k v ts es =
     pick (eqb k 30) (Expr.Int at (numAt 0 v))
     (pick (eqb k 31) (Expr.Ident at (numAt 0 v))
@@ -60,28 +60,28 @@ unfoldable mutual
   exprsOf (tcons t ts) = econs (exprOf t) (exprsOf ts)
 
 -- the blocks (5) among a statement's children, each with its place and statements
-pub data Blocks : Type 0 where
-  noBlock : Blocks
-  andBlock : (place : ℕ) → Stmts → Blocks → Blocks
+pub data BlockRecords : Type 0 where
+  noBlock : BlockRecords
+  andBlock : (place : ℕ) → Stmts → BlockRecords → BlockRecords
 
-abbrev pub placeB : Blocks → ℕ
+abbrev pub placeB : BlockRecords → ℕ
 placeB noBlock = 0
 placeB (andBlock p ss bs) = p
 
-abbrev pub firstB : Blocks → Stmts
+abbrev pub firstB : BlockRecords → Stmts
 firstB noBlock = snil
 firstB (andBlock p ss bs) = ss
 
-abbrev pub restB : Blocks → Blocks
+abbrev pub restB : BlockRecords → BlockRecords
 restB noBlock = noBlock
 restB (andBlock p ss bs) = bs
 
-abbrev pub optB : Blocks → OptStmts
+abbrev pub optB : BlockRecords → OptStmts
 optB noBlock = noElse
 optB (andBlock p ss bs) = elseDo p ss
 
 -- a statement by its place, kind, fields, expressions and blocks; the last is 20, Expr (`NothingOverlooked`)
-abbrev pub stmtFrom : (place kind : ℕ) → List Value → Exprs → Blocks → Stmt
+abbrev pub stmtFrom : (place kind : ℕ) → List FieldValue → Exprs → BlockRecords → Stmt
 stmtFrom at k v es bs =
     pick (eqb k 10) (Stmt.Let at (numAt 0 v) (firstE es))
     (pick (eqb k 11) (Stmt.Constrain at (firstE es))
@@ -105,11 +105,11 @@ unfoldable mutual
   stmtsOf tnil = snil
   stmtsOf (tcons t ts) = scons (stmtOf t) (stmtsOf ts)
 
-  pub blocksOf : Trees → Blocks
+  pub blocksOf : Trees → BlockRecords
   blocksOf tnil = noBlock
   blocksOf (tcons t ts) = addBlock t (blocksOf ts)
 
-  pub addBlock : Tree → Blocks → Blocks
+  pub addBlock : Tree → BlockRecords → BlockRecords
   addBlock (node at k v ts) bs = pick (eqb k 5) (andBlock at (stmtsOf ts) bs) bs
 
 -- a struct's field, or a parameter: Grammar's rows 3 and 4 have pairs, and no other form is met (`NothingOverlooked`)
@@ -121,7 +121,7 @@ paramOf (ty t) = record { name = 0; ty = 0 }
 paramOf (param v t) = record { name = 0; ty = 0 }
 paramOf (pair a b) = record { name = a; ty = b }
 
-abbrev pub paramsAt : ℕ → List Value → List Param
+abbrev pub paramsAt : ℕ → List FieldValue → List Param
 paramsAt i v = map paramOf (itemsAt i v)
 
 abbrev pub storageOf : Tree → StorageField
@@ -171,7 +171,7 @@ andThis t n = record { storage = n .storage + oneIf 2 t; structs = n .structs + 
 -- what the limits look at: a record's kind, its fields, how many children it has, its depth, and what came before it
 pub record Measured : Type 0 where
   pub kind : ℕ
-  pub fields : List Value
+  pub fields : List FieldValue
   pub children : ℕ
   pub depth : ℕ
   pub before : Counts
@@ -221,9 +221,6 @@ opNumber BinOp.Lt = 6
 opNumber BinOp.Gt = 7
 opNumber BinOp.Lte = 8
 opNumber BinOp.Gte = 9
-
-abbrev u16 : ℕ → Value
-u16 n = item (small n)
 
 abbrev single : Tree → Trees
 single t = tcons t tnil

@@ -17,7 +17,7 @@ use Rattle.definitions.specs.ProgramSheet.{readProgram, writeProgram, re
 use Rattle.definitions.specs.Records.{Form, Good, ReadsAll}
 use Rattle.definitions.specs.Answers.{Refusal, refusal, Answer, lowerSheet, verifySheet}
 use Rattle.definitions.specs.Demand3.{NeverLacks, AcceptedOr45to47, Demand3For, Demand3}
-use Rattle.definitions.specs.RunRows.{block, gives, seven, functionOf, ends, five, six}
+use Rattle.definitions.specs.RunRows.{block, gives, seven, functionMade, ends, five, six}
 
 -- ---- PROGRAMS THAT LACK: the function that does, with what stands before and behind it, the words and the picks
 pub record Lacking : Type 0 where
@@ -27,17 +27,17 @@ pub record Lacking : Type 0 where
   pub words : List ℕ
   pub picks : List Pick
 
-abbrev pub programOf : List IrFunction → IrProgram
-programOf fs = record { functions = fs; functionNames = [] }
+abbrev pub programWith : List IrFunction → IrProgram
+programWith fs = record { functions = fs; functionNames = [] }
 
 -- the run lacks, and so the program does not never lack
 pub record Refuted (l : Lacking) : Type 0 where
   pub fits : length (l .words) ≡ length (l .function .params)
   pub run-lacks : run (l .function) (l .words) (l .picks) ≡ lacks
-  pub refuted : NeverLacks (programOf (l .before ++ (l .function ∷ l .behind))) → ⊥
+  pub refuted : NeverLacks (programWith (l .before ++ (l .function ∷ l .behind))) → ⊥
 
 abbrev pub plain : List BasicBlock → List (ℕ × IrType) → IrFunction
-plain bs ps = functionOf bs ps 3 11 IrType.U64 (IrType.U64 ∷ [])
+plain bs ps = functionMade bs ps 3 11 IrType.U64 (IrType.U64 ∷ [])
 
 -- a function that ends at once, one that reads a value which is never made
 abbrev pub fine : IrFunction
@@ -90,12 +90,12 @@ abbrev consts : ℕ → List InstrNode
 consts zero = []
 consts (suc n) = gives 8 seven ∷ consts n
 
-abbrev always : ℕ → List Pick
-always zero = []
-always (suc n) = (0, thenWay) ∷ always n
+abbrev thenAlways : ℕ → List Pick
+thenAlways zero = []
+thenAlways (suc n) = (0, thenWay) ∷ thenAlways n
 
 abbrev afterMany : Lacking
-afterMany = record { before = []; function = plain (block 0 (consts 100) (Terminator.Return (some 7)) ∷ []) []; behind = []; words = []; picks = always 101 }
+afterMany = record { before = []; function = plain (block 0 (consts 100) (Terminator.Return (some 7)) ∷ []) []; behind = []; words = []; picks = thenAlways 101 }
 
 abbrev pub lackingPrograms : List Lacking
 lackingPrograms = theOnly ∷ theFirst ∷ theSecond ∷ theLast ∷ withParameters ∷ atOnce ∷ onThen ∷ onElse ∷ onThenAndElse ∷ afterMany ∷ []
@@ -108,7 +108,7 @@ abbrev pub readsParameter : IrFunction
 readsParameter = plain (block 0 [] (Terminator.Return (some 5)) ∷ []) (five ∷ [])
 
 abbrev pub neverLacking : List IrProgram
-neverLacking = programOf [] ∷ programOf (fine ∷ []) ∷ programOf (readsParameter ∷ []) ∷ []
+neverLacking = programWith [] ∷ programWith (fine ∷ []) ∷ programWith (readsParameter ∷ []) ∷ []
 
 abbrev pub NeverLackingHold : Type 0
 NeverLackingHold = All NeverLacks neverLacking

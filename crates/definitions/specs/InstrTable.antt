@@ -52,12 +52,12 @@ kindRows =
     row 81 ResultRule.u64 Effect.ContextRead Reads.noValue ∷ []  -- ContextRead
 
 -- the row of a kind
-abbrev rowIn : ℕ → List KindRow → Option KindRow
-rowIn k [] = none
-rowIn k (r ∷ rs) = elim (eqb k (r .kind)) [ true ↦ some r | false ↦ rowIn k rs ]
+abbrev kindRowIn : ℕ → List KindRow → Option KindRow
+kindRowIn k [] = none
+kindRowIn k (r ∷ rs) = elim (eqb k (r .kind)) [ true ↦ some r | false ↦ kindRowIn k rs ]
 
 unfoldable pub kindRow : ℕ → Option KindRow
-kindRow k = rowIn k kindRows
+kindRow k = kindRowIn k kindRows
 
 -- the kind of an instruction, in `Instruction`'s order: Lt, Le, Gt, Ge, where `BinOp` has Lt, Gt, Lte, Gte
 abbrev pub binaryKind : BinOp → ℕ

@@ -16,6 +16,7 @@ pub mod Fine
 pub mod ProgramSheet
 pub mod ContractSheet
 pub mod Answers
+pub mod Bench
 pub mod Lines
 pub mod Demand3
 pub mod Rows
@@ -28,3 +29,6 @@ pub mod Meaning
 pub mod Readings
 pub mod AnalyzeRows
 pub mod AnalyzeExprRows
+pub mod Apart
+pub mod BenchRows
+pub mod BenchSheetRows

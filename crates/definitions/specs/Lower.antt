@@ -166,12 +166,12 @@ pushValue i t c = (pushInstr i c, some (c .nextValue, t))
 unfoldable pub needValue : Lowered → Lowering (FnCtx × Value)
 needValue p = elim (p .1) [ none ↦ err LoweringError.VoidAsValue | some v ↦ ok (p .0, v) ]
 
-abbrev pub structOf : IrType → Option ℕ
-structOf IrType.U64 = none
-structOf IrType.BoolT = none
-structOf IrType.FieldT = none
-structOf (IrType.Struct n) = some n
-structOf IrType.Void = none
+abbrev pub structNameOf : IrType → Option ℕ
+structNameOf IrType.U64 = none
+structNameOf IrType.BoolT = none
+structNameOf IrType.FieldT = none
+structNameOf (IrType.Struct n) = some n
+structNameOf IrType.Void = none
 
 -- the callees that `lower_call` knows by name, in the order in which it asks
 pub data Callee : Type 0 where
@@ -229,7 +229,7 @@ unfoldable mutual
   lowerExpr K (Expr.Call p n args) c = lowerCall K (callee n) n (count args) (λ d. lowerArgs K args d) c
   lowerExpr K (Expr.FieldAccess p f e) c = do
     (c, (base, ty)) ← lowerExpr K e c >>= needValue
-    s ← okOrElse (structOf ty) LoweringError.FieldOfNonStruct
+    s ← okOrElse (structNameOf ty) LoweringError.FieldOfNonStruct
     (_, decl) ← okOrElse (structNamed K s) (LoweringError.UnresolvedType s)
     i ← okOrElse (fieldPosition (decl .fields) f) (LoweringError.NoSuchField s f)
     ok (pushValue (Instruction.Load IrType.U64 base (i * 8)) IrType.U64 c)

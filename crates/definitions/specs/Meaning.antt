@@ -10,9 +10,9 @@ use Rattle.definitions.specs.Ir.{IrFunction}
 use Rattle.definitions.specs.Run.{Way, thenWay, elseWay, Pick, State, at, ended, lacks, run}
 use Rattle.definitions.specs.ProgramSheet.{readProgram}
 use Rattle.definitions.specs.Answers.{Refusal, refusal, Answer, lowerSheet, verifySheet}
-use Rattle.definitions.specs.Rows.{Row, P1, P3, P7, P12, Holds}
+use Rattle.definitions.specs.Rows.{SheetRow, P1, P3, P7, P12, Holds}
 use Rattle.definitions.specs.Readings.{Reading, lowers, Answered}
-use Rattle.definitions.specs.RunRows.{StateRow, StepsRow, Reaches, Steps}
+use Rattle.definitions.specs.RunRows.{StateRow, StepsRow, Reaches, StepsTo}
 use Rattle.definitions.specs.ReadsRows.{Equal}
 
 -- where the run of a program's first function stands after the picks, with no parameter
@@ -59,8 +59,8 @@ abbrev returns : RunRow
 returns = record { sheet = P3 .sheet; picks = times 2 (7, thenWay); result = endsVerified }
 
 -- P1 has no function
-abbrev empty : RunRow
-empty = record { sheet = P1 .sheet; picks = times 2 (7, thenWay); result = ok (record { verified = ok []; stands = noFunction }) }
+abbrev emptyProgram : RunRow
+emptyProgram = record { sheet = P1 .sheet; picks = times 2 (7, thenWay); result = ok (record { verified = ok []; stands = noFunction }) }
 
 -- one pick less: the run is still going on
 abbrev goesOn : RunRow
@@ -70,8 +70,8 @@ goesOn = record { sheet = P3 .sheet; picks = times 1 (7, thenWay); result = ok (
 abbrev leavesWhile : RunRow
 leavesWhile = record { sheet = P7 .sheet; picks = times 6 (0, elseWay); result = endsVerified }
 
-abbrev leavesFor : RunRow
-leavesFor = record { sheet = P12 .sheet; picks = times 10 (0, elseWay); result = endsVerified }
+abbrev leavesLoop : RunRow
+leavesLoop = record { sheet = P12 .sheet; picks = times 10 (0, elseWay); result = endsVerified }
 
 -- let a = 1; a = 2
 abbrev assigns : RunRow
@@ -119,7 +119,7 @@ closedScope = record {
 }
 
 abbrev pub runRows : List RunRow
-runRows = returns ∷ empty ∷ goesOn ∷ leavesWhile ∷ leavesFor ∷ assigns ∷ letItself ∷ closedScope ∷ []
+runRows = returns ∷ emptyProgram ∷ goesOn ∷ leavesWhile ∷ leavesLoop ∷ assigns ∷ letItself ∷ closedScope ∷ []
 
 abbrev pub Runs : RunRow → Type 0
 Runs r = comesTo (lowerSheet (r .sheet) 32768) (r .picks) ≡ r .result
@@ -149,10 +149,10 @@ abbrev pub LackingProgramLacks : Type 0
 LackingProgramLacks = ranOn lackingProgram lackingPicks ≡ record { verified = ok []; stands = hasLacked }
 
 -- THE ROWS SAY SOMETHING: each of their laws is false of a row with a wrong answer
-abbrev pub wrongSheet : Row
+abbrev pub wrongSheet : SheetRow
 wrongSheet = record { sheet = P1 .sheet; lowered = err (refusal 3 []); verified = P1 .verified }
 
-abbrev pub wrongVerified : Row
+abbrev pub wrongVerified : SheetRow
 wrongVerified = record { sheet = P1 .sheet; lowered = P1 .lowered; verified = none }
 
 abbrev pub wrongReading : Reading
@@ -179,7 +179,7 @@ pub record WrongRowsRefused : Type 0 where
   pub reading : Answered wrongReading → ⊥
   pub run : Runs wrongRun → ⊥
   pub state : Reaches wrongState → ⊥
-  pub steps : Steps wrongSteps → ⊥
+  pub steps : StepsTo wrongSteps → ⊥
   pub pair : Equal wrongPair → ⊥
   pub first : All Equal (wrongPair ∷ rightPair ∷ []) → ⊥
   pub second : All Equal (rightPair ∷ wrongPair ∷ []) → ⊥

@@ -8,30 +8,27 @@ use Rattle.definitions.specs.Ast.{BinOp}
 use Rattle.definitions.specs.Ir.{IrType, Instruction, Terminator, InstrNode, BasicBlock, IrFunction, IrProgram}
 use Rattle.definitions.specs.InstrTable.{kindOf}
 use Rattle.definitions.specs.Grammar.{Class, one, done, originWidth}
-use Rattle.definitions.specs.Records.{pick, Item, small, opt, word, ty, param, Value, item, group, rest, Tree, node, Trees, tnil, tcons, writeTree, readRecords, Form, checkRecords, numberOf, typeOf, itemsAt, numAt, typeAt, optAt, gather, treesOf, ReadsAll}
+use Rattle.definitions.specs.Records.{pick, Item, small, opt, word, ty, param, FieldValue, item, group, rest, Tree, node, Trees, tnil, tcons, writeTree, readRecords, Form, checkRecords, numberOf, typeOf, itemsAt, numAt, typeAt, optAt, gather, treesOf, ReadsAll, u16}
 
 -- WRITING. A record that is written has no place yet: 0 stands for it.
-abbrev unplaced : ℕ → List Value → Trees → Tree
+abbrev unplaced : ℕ → List FieldValue → Trees → Tree
 unplaced k vs ts = node 0 k vs ts
 
-abbrev u16 : ℕ → Value
-u16 n = item (small n)
-
-abbrev type : IrType → Value
+abbrev type : IrType → FieldValue
 type t = item (ty t)
 
-abbrev ids : List ℕ → Value
+abbrev ids : List ℕ → FieldValue
 ids a = rest (map small a)
 
 -- a record of an instruction or terminator by its own fields: before them stands what `origin` of Grammar says
-abbrev pub noOrigin : Value
+abbrev pub noOrigin : FieldValue
 noOrigin = item (word originWidth 0)
 
-abbrev owning : ℕ → List Value → Tree
+abbrev owning : ℕ → List FieldValue → Tree
 owning k own = unplaced k (noOrigin ∷ own) tnil
 
 -- an instruction's fields after its result, in the Rust's order, a list last
-abbrev pub valuesOf : Instruction → List Value
+abbrev pub valuesOf : Instruction → List FieldValue
 valuesOf (Instruction.Const t v) = type t ∷ item (word 8 v) ∷ []
 valuesOf (Instruction.Binary op t l r) = type t ∷ u16 l ∷ u16 r ∷ []
 valuesOf (Instruction.Load t b o) = type t ∷ u16 b ∷ item (word 8 o) ∷ []
@@ -65,8 +62,8 @@ blockTree b = unplaced 53 (u16 (b .id) ∷ []) (treesOf instrTree (b .instrs) (o
 abbrev pub paramItem : ℕ × IrType → Item
 paramItem p = param (p .0) (p .1)
 
-abbrev pub functionTree : IrFunction → Tree
-functionTree f =
+abbrev pub irFunctionTree : IrFunction → Tree
+irFunctionTree f =
     unplaced 51 (u16 (f .id) ∷ u16 (f .name) ∷ type (f .retTy) ∷ group (map paramItem (f .params)) ∷ group (map ty (f .locals)) ∷ [])
     (treesOf blockTree (f .blocks) tnil)
 
@@ -74,7 +71,7 @@ abbrev pub functionNameTree : ℕ × ℕ → Tree
 functionNameTree p = unplaced 52 (u16 (p .0) ∷ u16 (p .1) ∷ []) tnil
 
 abbrev pub programTree : IrProgram → Tree
-programTree p = unplaced 50 [] (treesOf functionTree (p .functions) (treesOf functionNameTree (p .functionNames) tnil))
+programTree p = unplaced 50 [] (treesOf irFunctionTree (p .functions) (treesOf functionNameTree (p .functionNames) tnil))
 
 unfoldable pub writeProgram : IrProgram → List ℕ
 writeProgram p = writeTree (programTree p)
@@ -88,16 +85,16 @@ binaryOf k =
     pick (eqb k 61) BinOp.Add (pick (eqb k 62) BinOp.Sub (pick (eqb k 63) BinOp.Mul (pick (eqb k 64) BinOp.Div (pick (eqb k 65) BinOp.Eq
     (pick (eqb k 66) BinOp.Neq (pick (eqb k 67) BinOp.Lt (pick (eqb k 68) BinOp.Lte (pick (eqb k 69) BinOp.Gt BinOp.Gte))))))))
 
-abbrev numsAt : ℕ → List Value → List ℕ
+abbrev numsAt : ℕ → List FieldValue → List ℕ
 numsAt i vs = map numberOf (itemsAt i vs)
 
 -- the own fields of an instruction or terminator
-abbrev pub ownOf : List Value → List Value
+abbrev pub ownOf : List FieldValue → List FieldValue
 ownOf [] = []
 ownOf (first ∷ own) = own
 
 -- an instruction by its kind and own fields, of which 0 is the result; 61 to 70 are the operators; the last is 81, ContextRead (`NothingOverlookedInPrograms`)
-abbrev pub instrOf : ℕ → List Value → Instruction
+abbrev pub instrOf : ℕ → List FieldValue → Instruction
 instrOf k v =
     pick (eqb k 60) (Instruction.Const (typeAt 1 v) (numAt 2 v))
     (pick (leb k 70) (Instruction.Binary (binaryOf k) (typeAt 1 v) (numAt 2 v) (numAt 3 v))
@@ -117,7 +114,7 @@ abbrev pub instrNodeOf : Tree → InstrNode
 instrNodeOf (node at k v ts) = record { result = optAt 0 (ownOf v); instr = instrOf k (ownOf v) }
 
 -- a terminator by its kind and own fields; the last is 93, Unreachable (`NothingOverlookedInPrograms`)
-abbrev pub terminatorOf : ℕ → List Value → Terminator
+abbrev pub terminatorOf : ℕ → List FieldValue → Terminator
 terminatorOf k v =
     pick (eqb k 90) (Terminator.Jump (numAt 0 v))
     (pick (eqb k 91) (Terminator.Branch (numAt 0 v) (numAt 1 v) (numAt 2 v))
@@ -134,14 +131,14 @@ firstOf (a ∷ more) = some a
 abbrev pub blockOf : Tree → BasicBlock
 blockOf (node at k v ts) = record { id = numAt 0 v; instrs = gather 60 81 instrNodeOf ts; terminator = firstOf (gather 90 93 termOf ts) }
 
-abbrev pub paramsAt : ℕ → List Value → List (ℕ × IrType)
-paramsAt i vs = map (λ (x : Item). (numberOf x, typeOf x)) (itemsAt i vs)
+abbrev pub irParamsAt : ℕ → List FieldValue → List (ℕ × IrType)
+irParamsAt i vs = map (λ (x : Item). (numberOf x, typeOf x)) (itemsAt i vs)
 
-abbrev pub typesAt : ℕ → List Value → List IrType
+abbrev pub typesAt : ℕ → List FieldValue → List IrType
 typesAt i vs = map typeOf (itemsAt i vs)
 
-abbrev pub functionOf : Tree → IrFunction
-functionOf (node at k v ts) = record { id = numAt 0 v; name = numAt 1 v; params = paramsAt 3 v; retTy = typeAt 2 v; blocks = gather 53 53 blockOf ts; locals = typesAt 4 v }
+abbrev pub irFunctionOf : Tree → IrFunction
+irFunctionOf (node at k v ts) = record { id = numAt 0 v; name = numAt 1 v; params = irParamsAt 3 v; retTy = typeAt 2 v; blocks = gather 53 53 blockOf ts; locals = typesAt 4 v }
 
 abbrev pub functionNameOf : Tree → ℕ × ℕ
 functionNameOf (node at k v ts) = (numAt 0 v, numAt 1 v)
@@ -149,7 +146,7 @@ functionNameOf (node at k v ts) = (numAt 0 v, numAt 1 v)
 -- no record at all does not pass refusal 40: what is written has 6 bytes or more (`NothingOverlookedInPrograms`)
 abbrev pub programOf : Trees → IrProgram
 programOf tnil = record { functions = []; functionNames = [] }
-programOf (tcons (node at k v ts) more) = record { functions = gather 51 51 functionOf ts; functionNames = gather 52 52 functionNameOf ts }
+programOf (tcons (node at k v ts) more) = record { functions = gather 51 51 irFunctionOf ts; functionNames = gather 52 52 functionNameOf ts }
 
 unfoldable pub readProgram : List ℕ → IrProgram
 readProgram s = programOf (readRecords s 0 (length s))

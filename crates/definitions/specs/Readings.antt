@@ -344,12 +344,12 @@ r15 = record {
 abbrev pub readings : List Reading
 readings = r1 ∷ r2 ∷ r3a ∷ r3b ∷ r3c ∷ r4a ∷ r4b ∷ r5 ∷ r6a ∷ r6b ∷ r7a ∷ r7b ∷ r8a ∷ r8b ∷ r10a ∷ r10b ∷ r12a ∷ r12b ∷ r13a ∷ r13b ∷ r14a ∷ r14b ∷ r15 ∷ []
 
-abbrev pub answerOf : Asks → List ℕ → Answer
-answerOf (lowers room) s = lowerSheet s room
-answerOf verifies s = verifySheet s
+abbrev pub answerTo : Asks → List ℕ → Answer
+answerTo (lowers room) s = lowerSheet s room
+answerTo verifies s = verifySheet s
 
 abbrev pub Answered : Reading → Type 0
-Answered r = answerOf (r .asks) (r .sheet) ≡ r .answer
+Answered r = answerTo (r .asks) (r .sheet) ≡ r .answer
 
 abbrev pub ReadingsHold : Type 0
 ReadingsHold = All Answered readings

@@ -89,12 +89,15 @@ readItems e zero s at = []
 readItems e (suc n) s at = readItem e s at ∷ readItems e n s (at + sizeOf e)
 
 -- FIELDS
-pub data Value : Type 0 where
-  item : Item → Value
-  group : List Item → Value
-  rest : List Item → Value
+pub data FieldValue : Type 0 where
+  item : Item → FieldValue
+  group : List Item → FieldValue
+  rest : List Item → FieldValue
 
-unfoldable pub writeValue : Value → List ℕ
+abbrev pub u16 : ℕ → FieldValue
+u16 n = item (small n)
+
+unfoldable pub writeValue : FieldValue → List ℕ
 writeValue (item i) = writeItem i
 writeValue (group is) = bytes 2 (length is) ++ writeItems is
 writeValue (rest is) = writeItems is
@@ -115,12 +118,12 @@ okField (listed e) s stop at = eqb ((stop - at) % sizeOf e) 0 && okItems e ((sto
 unfoldable pub past : Field → List ℕ → (stop at : ℕ) → Option ℕ
 past f s stop at = pick (okField f s stop at) (some (fieldEnd f s stop at)) none
 
-unfoldable pub readValue : Field → List ℕ → (stop at : ℕ) → Value
+unfoldable pub readValue : Field → List ℕ → (stop at : ℕ) → FieldValue
 readValue (single e) s stop at = item (readItem e s at)
 readValue (counted e) s stop at = group (readItems e (le 2 s at) s (at + 2))
 readValue (listed e) s stop at = rest (readItems e ((stop - at) / sizeOf e) s at)
 
-unfoldable pub writeValues : List Value → List ℕ
+unfoldable pub writeValues : List FieldValue → List ℕ
 writeValues [] = []
 writeValues (v ∷ vs) = writeValue v ++ writeValues vs
 
@@ -134,7 +137,7 @@ unfoldable pub fieldsEnd : List Field → List ℕ → (stop at : ℕ) → ℕ
 fieldsEnd [] s stop at = at
 fieldsEnd (f ∷ fs) s stop at = fieldsEnd fs s stop (fieldEnd f s stop at)
 
-unfoldable pub readValues : List Field → List ℕ → (stop at : ℕ) → List Value
+unfoldable pub readValues : List Field → List ℕ → (stop at : ℕ) → List FieldValue
 readValues [] s stop at = []
 readValues (f ∷ fs) s stop at = readValue f s stop at ∷ readValues fs s stop (fieldEnd f s stop at)
 
@@ -216,7 +219,7 @@ checkRecords s at end q = recordsFrom (suc (end - at)) s at end q
 -- TREES OF RECORDS: the place at which a record was read, its kind, its fields, its children
 mutual
   pub data Tree : Type 0 where
-    node : (place kind : ℕ) → List Value → Trees → Tree
+    node : (place kind : ℕ) → List FieldValue → Trees → Tree
 
   pub data Trees : Type 0 where
     tnil : Trees
@@ -252,12 +255,12 @@ readRecords s at end = treesFrom (suc (end - at)) s at end
 
 -- FIELDS OF A NODE, by position. A kind's row fixes the form of each of its fields, so one form is met at a position. What stands for the others (0,
 -- Void, none) would be written back as other bytes than were read (`NothingOverlooked`, `NothingOverlookedInPrograms`).
-abbrev itemOf : Value → Item
+abbrev itemOf : FieldValue → Item
 itemOf (item i) = i
 itemOf (group is) = small 0
 itemOf (rest is) = small 0
 
-abbrev itemsOf : Value → List Item
+abbrev itemsOf : FieldValue → List Item
 itemsOf (item i) = []
 itemsOf (group is) = is
 itemsOf (rest is) = is
@@ -286,19 +289,19 @@ optOf (ty t) = none
 optOf (param v t) = none
 optOf (pair a b) = none
 
-abbrev pub itemAt : ℕ → List Value → Item
+abbrev pub itemAt : ℕ → List FieldValue → Item
 itemAt i vs = itemOf (getD vs i (item (small 0)))
 
-abbrev pub itemsAt : ℕ → List Value → List Item
+abbrev pub itemsAt : ℕ → List FieldValue → List Item
 itemsAt i vs = itemsOf (getD vs i (item (small 0)))
 
-abbrev pub numAt : ℕ → List Value → ℕ
+abbrev pub numAt : ℕ → List FieldValue → ℕ
 numAt i vs = numberOf (itemAt i vs)
 
-abbrev pub typeAt : ℕ → List Value → IrType
+abbrev pub typeAt : ℕ → List FieldValue → IrType
 typeAt i vs = typeOf (itemAt i vs)
 
-abbrev pub optAt : ℕ → List Value → Option ℕ
+abbrev pub optAt : ℕ → List FieldValue → Option ℕ
 optAt i vs = optOf (itemAt i vs)
 
 -- CHILDREN OF A NODE: what f makes of those of the kinds from `lo` to `hi`

@@ -10,13 +10,13 @@ use Rattle.definitions.specs.All.{All}
 use Rattle.definitions.specs.Result.{Result, err, ok}
 use Rattle.definitions.specs.Answers.{Refusal, refusal, Answer, lowerSheet, verifySheet}
 
-pub record Row : Type 0 where
+pub record SheetRow : Type 0 where
   pub sheet : List ℕ
   pub lowered : Answer
   pub verified : Option Answer
 
 -- P1: an empty contract
-abbrev pub P1 : Row
+abbrev pub P1 : SheetRow
 P1 = record {
   sheet =
       0x08 ∷ 0x00 ∷ 0x00 ∷ 0x00 ∷ 0x01 ∷ 0x00 ∷ 0x0A ∷ 0x00 ∷ [];  -- contract
@@ -27,7 +27,7 @@ P1 = record {
 }
 
 -- P2: a function with an empty body
-abbrev pub P2 : Row
+abbrev pub P2 : SheetRow
 P2 = record {
   sheet =
       0x16 ∷ 0x00 ∷ 0x00 ∷ 0x00 ∷ 0x01 ∷ 0x00 ∷ 0x0A ∷ 0x00 ∷  -- contract
@@ -43,7 +43,7 @@ P2 = record {
 }
 
 -- P3: return 7
-abbrev pub P3 : Row
+abbrev pub P3 : SheetRow
 P3 = record {
   sheet =
       0x2A ∷ 0x00 ∷ 0x00 ∷ 0x00 ∷ 0x01 ∷ 0x00 ∷ 0x0A ∷ 0x00 ∷  -- contract
@@ -62,7 +62,7 @@ P3 = record {
 }
 
 -- P4: if 1 == 1 { return 1 } else { return 2 }
-abbrev pub P4 : Row
+abbrev pub P4 : SheetRow
 P4 = record {
   sheet =
       0x74 ∷ 0x00 ∷ 0x00 ∷ 0x00 ∷ 0x01 ∷ 0x00 ∷ 0x0A ∷ 0x00 ∷  -- contract
@@ -99,7 +99,7 @@ P4 = record {
 }
 
 -- P5: if 1 { }
-abbrev pub P5 : Row
+abbrev pub P5 : SheetRow
 P5 = record {
   sheet =
       0x30 ∷ 0x00 ∷ 0x00 ∷ 0x00 ∷ 0x01 ∷ 0x00 ∷ 0x0A ∷ 0x00 ∷  -- contract
@@ -125,7 +125,7 @@ P5 = record {
 }
 
 -- P6: return 1; return y
-abbrev pub P6 : Row
+abbrev pub P6 : SheetRow
 P6 = record {
   sheet =
       0x38 ∷ 0x00 ∷ 0x00 ∷ 0x00 ∷ 0x01 ∷ 0x00 ∷ 0x0A ∷ 0x00 ∷  -- contract
@@ -146,7 +146,7 @@ P6 = record {
 }
 
 -- P7: while 1 < 2 { }
-abbrev pub P7 : Row
+abbrev pub P7 : SheetRow
 P7 = record {
   sheet =
       0x46 ∷ 0x00 ∷ 0x00 ∷ 0x00 ∷ 0x01 ∷ 0x00 ∷ 0x0A ∷ 0x00 ∷  -- contract
@@ -176,7 +176,7 @@ P7 = record {
 }
 
 -- P8: storage s = y, both undeclared: s is named
-abbrev pub P8-StorageWrite : Row
+abbrev pub P8-StorageWrite : SheetRow
 P8-StorageWrite = record {
   sheet =
       0x26 ∷ 0x00 ∷ 0x00 ∷ 0x00 ∷ 0x01 ∷ 0x00 ∷ 0x0A ∷ 0x00 ∷  -- contract
@@ -188,7 +188,7 @@ P8-StorageWrite = record {
 }
 
 -- P8: s = y, both undeclared: y is named
-abbrev pub P8-Assign : Row
+abbrev pub P8-Assign : SheetRow
 P8-Assign = record {
   sheet =
       0x26 ∷ 0x00 ∷ 0x00 ∷ 0x00 ∷ 0x01 ∷ 0x00 ∷ 0x0A ∷ 0x00 ∷  -- contract
@@ -200,7 +200,7 @@ P8-Assign = record {
 }
 
 -- P9: msg::sender(y)
-abbrev pub P9 : Row
+abbrev pub P9 : SheetRow
 P9 = record {
   sheet =
       0x2C ∷ 0x00 ∷ 0x00 ∷ 0x00 ∷ 0x01 ∷ 0x00 ∷ 0x0A ∷ 0x00 ∷  -- contract
@@ -220,7 +220,7 @@ P9 = record {
 }
 
 -- P10: two storage fields of one name: storage s = storage s
-abbrev pub P10 : Row
+abbrev pub P10 : SheetRow
 P10 = record {
   sheet =
       0x3A ∷ 0x00 ∷ 0x00 ∷ 0x00 ∷ 0x01 ∷ 0x00 ∷ 0x0A ∷ 0x00 ∷  -- contract
@@ -242,7 +242,7 @@ P10 = record {
 }
 
 -- P11: let a = f(), where f returns void
-abbrev pub P11 : Row
+abbrev pub P11 : SheetRow
 P11 = record {
   sheet =
       0x34 ∷ 0x00 ∷ 0x00 ∷ 0x00 ∷ 0x01 ∷ 0x00 ∷ 0x0A ∷ 0x00 ∷  -- contract
@@ -267,7 +267,7 @@ P11 = record {
 }
 
 -- P12: for i in 0..0 { }
-abbrev pub P12 : Row
+abbrev pub P12 : SheetRow
 P12 = record {
   sheet =
       0x40 ∷ 0x00 ∷ 0x00 ∷ 0x00 ∷ 0x01 ∷ 0x00 ∷ 0x0A ∷ 0x00 ∷  -- contract
@@ -303,7 +303,7 @@ P12 = record {
   verified = some (ok []);
 }
 
-abbrev pub proofSheets : List Row
+abbrev pub proofSheets : List SheetRow
 proofSheets = P1 ∷ P2 ∷ P3 ∷ P4 ∷ P5 ∷ P6 ∷ P7 ∷ P8-StorageWrite ∷ P8-Assign ∷ P9 ∷ P10 ∷ P11 ∷ P12 ∷ []
 
 -- what the definitions answer on a sheet
@@ -311,11 +311,11 @@ abbrev verifiedOf : Answer → Option Answer
 verifiedOf (err r) = none
 verifiedOf (ok b) = some (verifySheet b)
 
-abbrev pub rowOf : List ℕ → Row
-rowOf s = record { sheet = s; lowered = lowerSheet s 32768; verified = verifiedOf (lowerSheet s 32768) }
+abbrev pub sheetRowOf : List ℕ → SheetRow
+sheetRowOf s = record { sheet = s; lowered = lowerSheet s 32768; verified = verifiedOf (lowerSheet s 32768) }
 
-abbrev pub Holds : Row → Type 0
-Holds r = rowOf (r .sheet) ≡ r
+abbrev pub Holds : SheetRow → Type 0
+Holds r = sheetRowOf (r .sheet) ≡ r
 
 abbrev pub RowsHold : Type 0
 RowsHold = All Holds proofSheets

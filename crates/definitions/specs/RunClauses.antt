@@ -18,15 +18,15 @@ pub record RunStarts (f : IrFunction) (ws : List ℕ) : Type 0 where
   pub noPick : (s : State) → steps f ws [] s ≡ s
   pub onePick : (p : Pick) (ps : List Pick) (s : State) → steps f ws (p ∷ ps) s ≡ steps f ws ps (step f ws p s)
 
-abbrev pub blockOf : ℕ → List InstrNode → Option Terminator → BasicBlock
-blockOf i is t = record { id = i; instrs = is; terminator = t }
+abbrev pub blockWith : ℕ → List InstrNode → Option Terminator → BasicBlock
+blockWith i is t = record { id = i; instrs = is; terminator = t }
 
 -- entering a block: it must be there, and have a terminator; the parameters are held in the first listed one
 pub record Entering (f : IrFunction) (ws : List ℕ) (k : ℕ) (held : List (ℕ × ℕ)) (written : List ℕ) : Type 0 where
   pub byId : enter f ws k written ≡ enterAt (heldAtEntry f ws k) written (find k (f .blocks))
   pub notThere : enterAt held written none ≡ lacks
-  pub noTerminator : (i : ℕ) (is : List InstrNode) → enterAt held written (some (blockOf i is none)) ≡ lacks
-  pub closed : (i : ℕ) (is : List InstrNode) (t : Terminator) → enterAt held written (some (blockOf i is (some t))) ≡ at (record { block = blockOf i is (some t); rest = is; end = t; held = held; written = written })
+  pub noTerminator : (i : ℕ) (is : List InstrNode) → enterAt held written (some (blockWith i is none)) ≡ lacks
+  pub closed : (i : ℕ) (is : List InstrNode) (t : Terminator) → enterAt held written (some (blockWith i is (some t))) ≡ at (record { block = blockWith i is (some t); rest = is; end = t; held = held; written = written })
   pub firstListed : isFirst k (f .blocks) ≡ true → heldAtEntry f ws k ≡ paramsHeld (f .params) ws
   pub another : isFirst k (f .blocks) ≡ false → heldAtEntry f ws k ≡ []
   pub isListed : (b : BasicBlock) (bs : List BasicBlock) → isFirst k (b ∷ bs) ≡ eqb (b .id) k

@@ -42,15 +42,15 @@ pub record StateRow : Type 0 where
   pub picks : List Pick
   pub state : State
 
-abbrev pub functionOf : List BasicBlock → List (ℕ × IrType) → ℕ → ℕ → IrType → List IrType → IrFunction
-functionOf bs ps i n t ls = record { id = i; name = n; params = ps; retTy = t; blocks = bs; locals = ls }
+abbrev pub functionMade : List BasicBlock → List (ℕ × IrType) → ℕ → ℕ → IrType → List IrType → IrFunction
+functionMade bs ps i n t ls = record { id = i; name = n; params = ps; retTy = t; blocks = bs; locals = ls }
 
 -- what such functions come to, and that they all come to one state
 abbrev pub OfAny : Type 0
 OfAny = ℕ → ℕ → IrType → List IrType → State
 
 abbrev pub ofAny : List BasicBlock → List (ℕ × IrType) → (IrFunction → State) → OfAny
-ofAny bs ps f i n t ls = f (functionOf bs ps i n t ls)
+ofAny bs ps f i n t ls = f (functionMade bs ps i n t ls)
 
 abbrev pub always : State → OfAny
 always s i n t ls = s
@@ -120,8 +120,8 @@ startRows = noBlock ∷ firstOpen ∷ firstListed ∷ parameters ∷ wordMissing
 abbrev pub jumpsTo : ℕ → List BasicBlock → State → StateRow
 jumpsTo k bs s = record { blocks = block 0 [] (Terminator.Jump k) ∷ bs; params = five ∷ []; words = 50 ∷ []; picks = (70, thenWay) ∷ []; state = s }
 
-abbrev pub branches : ℕ → ℕ → Pick → List BasicBlock → State → StateRow
-branches t e p bs s = record { blocks = block 0 [] (Terminator.Branch 5 t e) ∷ bs; params = five ∷ []; words = 50 ∷ []; picks = p ∷ []; state = s }
+abbrev pub branchesTo : ℕ → ℕ → Pick → List BasicBlock → State → StateRow
+branchesTo t e p bs s = record { blocks = block 0 [] (Terminator.Branch 5 t e) ∷ bs; params = five ∷ []; words = 50 ∷ []; picks = p ∷ []; state = s }
 
 abbrev pub ends : ℕ → BasicBlock
 ends k = block k [] Terminator.Unreachable
@@ -137,14 +137,14 @@ enterRows =
     record { blocks = block 1 [] (Terminator.Jump 0) ∷ ends 2 ∷ []; params = []; words = []; picks = (70, thenWay) ∷ []; state = lacks } ∷  -- jumpToZero
     jumpsTo 1 (openBlock 1 [] ∷ ends 2 ∷ []) lacks ∷  -- jumpToOpen
     jumpsTo 2 (ends 1 ∷ ends 2 ∷ []) (atStart 2) ∷  -- jumpThere
-    branches 7 2 (0, thenWay) (ends 2 ∷ ends 9 ∷ []) lacks ∷  -- thenNowhere
-    branches 7 2 (1, elseWay) (ends 2 ∷ ends 9 ∷ []) (atStart 2) ∷  -- elseThere
-    branches 1 7 (0, thenWay) (ends 1 ∷ ends 9 ∷ []) (atStart 1) ∷  -- thenThere
-    branches 1 7 (1, elseWay) (ends 1 ∷ ends 9 ∷ []) lacks ∷  -- elseNowhere
-    branches 1 2 (0, thenWay) (openBlock 1 [] ∷ ends 2 ∷ []) lacks ∷  -- thenToOpen
-    branches 2 1 (1, elseWay) (openBlock 1 [] ∷ ends 2 ∷ []) lacks ∷  -- elseToOpen
-    branches 1 2 (1, thenWay) (ends 1 ∷ ends 2 ∷ []) (atStart 1) ∷  -- thenWithOne
-    branches 1 2 (0, elseWay) (ends 1 ∷ ends 2 ∷ []) (atStart 2) ∷  -- elseWithZero
+    branchesTo 7 2 (0, thenWay) (ends 2 ∷ ends 9 ∷ []) lacks ∷  -- thenNowhere
+    branchesTo 7 2 (1, elseWay) (ends 2 ∷ ends 9 ∷ []) (atStart 2) ∷  -- elseThere
+    branchesTo 1 7 (0, thenWay) (ends 1 ∷ ends 9 ∷ []) (atStart 1) ∷  -- thenThere
+    branchesTo 1 7 (1, elseWay) (ends 1 ∷ ends 9 ∷ []) lacks ∷  -- elseNowhere
+    branchesTo 1 2 (0, thenWay) (openBlock 1 [] ∷ ends 2 ∷ []) lacks ∷  -- thenToOpen
+    branchesTo 2 1 (1, elseWay) (openBlock 1 [] ∷ ends 2 ∷ []) lacks ∷  -- elseToOpen
+    branchesTo 1 2 (1, thenWay) (ends 1 ∷ ends 2 ∷ []) (atStart 1) ∷  -- thenWithOne
+    branchesTo 1 2 (0, elseWay) (ends 1 ∷ ends 2 ∷ []) (atStart 2) ∷  -- elseWithZero
     record { blocks = block 0 [] (Terminator.Branch 5 1 2) ∷ ends 1 ∷ ends 2 ∷ []; params = five ∷ []; words = 0 ∷ []; picks = (0, thenWay) ∷ []; state = atStart 1 } ∷ []  -- thenOfZero
 
 -- ENTERING EMPTIES the held values; in the first listed block the parameters are then held. The locals written stay
@@ -232,7 +232,7 @@ visitRows = leavesBlock ∷ leavesByThen ∷ leavesByElse ∷ comesBack ∷ bloc
 
 -- ---- ONE STEP FOR AN INSTRUCTION, operands looked at before all else: it lacks if a value that it reads is not held.
 -- A function with one block: after so many picks as it has instructions, with the words 90, 91 and so on, with these parameters,
--- each with ten times its number as its word, the run lacks, or has passed them all and holds and has written this.
+-- each with ten timesOver its number as its word, the run lacks, or has passed them all and holds and has written this.
 abbrev pub wordsFrom : ℕ → List InstrNode → List Pick
 wordsFrom w [] = []
 wordsFrom w (n ∷ ns) = (w, thenWay) ∷ wordsFrom (suc w) ns
@@ -379,17 +379,17 @@ localOfAnotherBlock = record {
   state = inBlock 1 (gives 7 (Instruction.ReadLocal 2 IrType.U64) ∷ []) (Terminator.Return (some 7)) [] ((7, 72) ∷ []) (2 ∷ []);
 }
 
--- a lack after many picks: 200 times round, and then to a block that is not there
-abbrev pub times : ℕ → List Pick → List Pick → List Pick
-times zero ps rest = rest
-times (suc n) ps rest = ps ++ times n ps rest
+-- a lack after many picks: 200 timesOver round, and then to a block that is not there
+abbrev pub timesOver : ℕ → List Pick → List Pick → List Pick
+timesOver zero ps rest = rest
+timesOver (suc n) ps rest = ps ++ timesOver n ps rest
 
 abbrev lacksLate : StateRow
 lacksLate = record {
   blocks = block 0 (gives 7 seven ∷ []) (Terminator.Branch 7 0 1) ∷ [];
   params = [];
   words = [];
-  picks = times 200 ((70, thenWay) ∷ (71, thenWay) ∷ []) ((72, thenWay) ∷ (73, elseWay) ∷ []);
+  picks = timesOver 200 ((70, thenWay) ∷ (71, thenWay) ∷ []) ((72, thenWay) ∷ (73, elseWay) ∷ []);
   state = lacks;
 }
 
@@ -398,7 +398,7 @@ lastsLong = record {
   blocks = block 0 (gives 7 seven ∷ []) (Terminator.Branch 7 0 1) ∷ [];
   params = [];
   words = [];
-  picks = times 200 ((70, thenWay) ∷ (71, thenWay) ∷ []) ((72, thenWay) ∷ []);
+  picks = timesOver 200 ((70, thenWay) ∷ (71, thenWay) ∷ []) ((72, thenWay) ∷ []);
   state = inBlock 0 (gives 7 seven ∷ []) (Terminator.Branch 7 0 1) [] ((7, 72) ∷ []) [];
 }
 
@@ -433,8 +433,8 @@ pub record StepsRow : Type 0 where
   pub picks : List Pick
   pub state : State
 
-abbrev pub Steps : StepsRow → Type 0
-Steps r = ofAny (r .blocks) (r .params) (λ f. steps f (r .words) (r .picks) (r .from)) ≡ always (r .state)
+abbrev pub StepsTo : StepsRow → Type 0
+StepsTo r = ofAny (r .blocks) (r .params) (λ f. steps f (r .words) (r .picks) (r .from)) ≡ always (r .state)
 
 abbrev readsAndMakes7 : List InstrNode
 readsAndMakes7 = does (Instruction.Assert 7) ∷ gives 7 seven ∷ []
@@ -474,4 +474,4 @@ abbrev pub StateRowsHold : Type 0
 StateRowsHold = All RowsReach stateRows
 
 abbrev pub StepsRowsHold : Type 0
-StepsRowsHold = All Steps stepsRows
+StepsRowsHold = All StepsTo stepsRows

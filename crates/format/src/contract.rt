@@ -30,3 +30,8 @@ pub const NUMBER: usize = HEAD;
 
 // A Binary: its operator.
 pub const OPERATOR: usize = HEAD;
+
+// The depth of the deepest record; the contract's is 1. At a function's record, so much of it is left.
+pub const MOST_DEPTH: usize = 40;
+
+pub const FUNCTION_DEPTH: usize = MOST_DEPTH - 1;

@@ -1,2 +1,2 @@
 pub mod Table
-mod Codes
+pub mod Codes

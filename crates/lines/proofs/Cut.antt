@@ -9,7 +9,7 @@ use lib.Dec.{leb}
 use lib.ListN.{length, take}
 use lib.Seq.{take-all, length-take-le}
 use Rattle.definitions.specs.Result.{err}
-use Rattle.definitions.specs.Answers.{Answer, verifySheet, lowerSheet, refusal}
+use Rattle.definitions.specs.Answers.{Answer, verifySheet, lowerSheet, analyzeSheet, refusal}
 
 -- what gives one answer to every longer sheet
 cuts : (f : List ℕ → Answer) (a : Answer) → ((s : List ℕ) → 32768 < length s → f s ≡ a) → (s : List ℕ) (n : ℕ) → 32768 < n → f (take n s) ≡ f s
@@ -36,3 +36,10 @@ long-lowered room s h = rw (lt-leb (length s) 32768 h)
 
 pub cut-lowered : (room : ℕ) (s : List ℕ) (n : ℕ) → 32768 < n → lowerSheet (take n s) room ≡ lowerSheet s room
 cut-lowered room = cuts (λ (s : List ℕ). lowerSheet s room) (err (refusal 1 [])) (long-lowered room)
+
+pub long-analyzed : (s : List ℕ) → 32768 < length s → analyzeSheet s ≡ err (refusal 1 [])
+unfolding analyzeSheet
+long-analyzed s h = rw (lt-leb (length s) 32768 h)
+
+pub cut-analyzed : (s : List ℕ) (n : ℕ) → 32768 < n → analyzeSheet (take n s) ≡ analyzeSheet s
+cut-analyzed = cuts analyzeSheet (err (refusal 1 [])) long-analyzed

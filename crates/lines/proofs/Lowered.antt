@@ -18,26 +18,21 @@ use Rattle.definitions.specs.ProgramSheet.{writeProgram}
 use Rattle.definitions.specs.Answers as answers
 use Rattle.definitions.specs.Answers.{Refusal, refusal, checkContract, lowerRefusal, lowerSheet, lengthOf, lengthNumbers, outputOf, padded}
 use Rattle.definitions.specs.Lines.{lineOf, loweredLine}
-use Rattle.definitions.proofs.Results.{ok-inj, err-ok, taking, taking-then, taking-check}
+use Rattle.definitions.proofs.Results.{ok-inj, err-ok, taking, taking-then, taking-check, both-true, take-padded}
 use Rattle.lower.specs.Whole.{answerOf}
 use Rattle.lower.specs.declared.Answer.{Answer}
 use Rattle.lower.specs.declared.Answer.the-variants as answer
 use Rattle.lower.proofs.Answer as declared
 use Rattle.lines.specs.Lined.{Lined}
-use Rattle.lines.proofs.Zeros.{take-padded}
 
 -- an accepted sheet has 32,768 bytes at most
-and-true : (a b : Bool) → (a && b) ≡ true → a ≡ true
-and-true true b e = refl
-and-true false b e = e
-
 pub fits : (s : List ℕ) (room : ℕ) (b : List ℕ) → lowerSheet s room ≡ ok b → length b ≤ 32768
 unfolding lowerSheet
 fits s room b e =
     taking-then (checkContract s) _ e λ _ _ e₁.
     taking (mapErr lowerRefusal (lowerContract (readContract s))) _ e₁ λ p _ e₂.
     taking-check (leb (length (writeProgram p)) 32768 && leb (length (writeProgram p)) room) (refusal 31 []) _ e₂ λ t e₃.
-    subst (λ (l : List ℕ). length l ≤ 32768) (ok-inj e₃) (leb-true _ _ (and-true _ _ t))
+    subst (λ (l : List ℕ). length l ≤ 32768) (ok-inj e₃) (leb-true _ _ (both-true _ _ t))
 
 -- ACCEPTED
 pub accepted-fits : (s : List ℕ) (room n : ℕ) → ok n ≡ lengthOf (lowerSheet s room) → n ≤ 32768

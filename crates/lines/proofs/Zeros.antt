@@ -7,6 +7,7 @@ use lib.ListN.{length, take, replicate}
 use lib.Seq.{sets, length-take-le}
 use Rattle.definitions.specs.Answers.{padded}
 use Rattle.definitions.specs.Lines.{lineOf}
+use Rattle.definitions.proofs.Results.{take-padded}
 use Rattle.lower.proofs.Fill as fill
 use Rattle.lines.specs.Lined.{Lined}
 
@@ -22,11 +23,6 @@ cleared line text m last r front long h q =
     let is : last ≡ padded (length text) line = q ∙ rw (← e, ← long) (fill.then-zeros line m (omega arith) (rw e front)) in
     let whole : length last ≡ length text = ap length is ∙ padded-length (length text) line in
     record { is = is; size = sym e; inside = (omega arith, sym (length-take-le r last (omega arith))); same-length = whole }
-
-pub take-padded : (n : ℕ) (l : List ℕ) → length l ≤ n → take (length l) (padded n l) ≡ l
-take-padded n [] h = refl
-take-padded zero (x ∷ l) h = absurd (omega arith)
-take-padded (suc n) (x ∷ l) h = ap (λ (r : List ℕ). x ∷ r) (take-padded n l (omega arith))
 
 -- numbers that were told with their count
 pub told : (count : ℕ) (list l : List ℕ) → (count ≡ length l) × ((list ≡ padded 6 l) × (count ≤ 6)) → take count list ≡ l

@@ -4,7 +4,7 @@ ghost use Prim.Native.Nat.{_+_, _*_, _≤_, _<_};
 ghost use lib.ListN.{length, take};
 ghost use lib.Seq.{sets};
 ghost use Rattle.definitions.specs.Result.{ok};
-ghost use Rattle.definitions.specs.Answers.{checkContract, lowerSheet, numbersOf, outputOf, padded, verifySheet};
+ghost use Rattle.definitions.specs.Answers.{analyzeSheet, checkContract, lowerSheet, numbersOf, outputOf, padded, verifySheet};
 ghost use Rattle.definitions.specs.Lines.{hexDigit, hexed, lineOf, loweredLine};
 ghost use Rattle.lines.specs.Lined.{Begins, Lined};
 use digits::put_digits;
@@ -96,6 +96,17 @@ pub fn contract_line(sheet: &[u8], out: &mut [u8; LINE]) -> usize
     ensures { λ r. ⌜ (r ≤ length (now (out .exit))) × (r ≡ length (take r (now (out .exit)))) ⌝ }
 {
     let n = lower_numbers::check_numbers(sheet::check_contract(sheet));
+    let list = n.list;
+    line(n.count, list, out)
+}
+
+// The same of the body check of a contract sheet.
+pub fn analyze_line(sheet: &[u8], out: &mut [u8; LINE]) -> usize
+    ensures { λ r. ⌜ now (out .exit) ≡ padded 128 (lineOf (numbersOf (analyzeSheet (now (sheet .entry))))) ⌝ }
+    ensures { λ r. ⌜ r ≡ length (lineOf (numbersOf (analyzeSheet (now (sheet .entry))))) ⌝ }
+    ensures { λ r. ⌜ (r ≤ length (now (out .exit))) × (r ≡ length (take r (now (out .exit)))) ⌝ }
+{
+    let n = analyze_numbers::analyze_numbers(analyze::analyze(sheet));
     let list = n.list;
     line(n.count, list, out)
 }

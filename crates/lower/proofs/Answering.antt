@@ -11,15 +11,16 @@ use Rattle.definitions.specs.Ast.{Contract}
 use Rattle.definitions.specs.Ir.{IrFunction}
 use Rattle.definitions.specs.Lower.{lowerFunctions, lowerContract, functionNames}
 use Rattle.definitions.specs.Records.{Tree, Trees, tnil, treesOf, writeRecord, writeTree, writeTrees, writeValues}
-use Rattle.definitions.specs.ProgramSheet.{functionTree, functionNameTree, writeProgram}
+use Rattle.definitions.specs.ProgramSheet.{irFunctionTree, functionNameTree, writeProgram}
 use Rattle.definitions.specs.ContractSheet.{readContract}
 use Rattle.definitions.specs.Answers as answers
 use Rattle.definitions.specs.Answers.{Refusal, checkContract, lowerSheet, lengthOf, outputOf, padded}
 use Rattle.definitions.specs.Demand3.{Demand3Of}
 use Rattle.definitions.proofs.Demand3.{demand3}
+use Rattle.definitions.proofs.Results.{take-padded}
 use Rattle.lower_state.specs.declared.LoweringError.{LoweringError}
 use Rattle.lower_layout.specs.Laid.{Laid}
-use Rattle.lower.specs.Whole.{Filled, FunctionsPlaced, programAnswer, Answered, answerOf, lowerRest, writtenBy, Finished}
+use Rattle.lower.specs.Whole.{Filled, FunctionsPlaced, programAnswer, AnsweredWith, answerOf, lowerRest, writtenBy, Finished}
 use Rattle.lower.specs.declared.Placed.{Placed}
 use Rattle.lower.specs.declared.Placed.the-variants as placed
 use Rattle.lower.specs.declared.Answer.{Answer}
@@ -33,11 +34,11 @@ trees-more f [] ts = refl
 trees-more f (a ∷ more) ts = ap (λ (l : List ℕ). writeTree (f a) ++ l) (trees-more f more ts) ∙ sym (append-assoc (writeTree (f a)) (writeTrees (treesOf f more tnil)) (writeTrees ts))
 
 abbrev bodyOf : List IrFunction → List (ℕ × ℕ) → List ℕ
-bodyOf gs names = writeTrees (treesOf functionTree gs tnil) ++ writeTrees (treesOf functionNameTree names tnil)
+bodyOf gs names = writeTrees (treesOf irFunctionTree gs tnil) ++ writeTrees (treesOf functionNameTree names tnil)
 
 program-is : (gs : List IrFunction) (names : List (ℕ × ℕ)) → writeProgram (record { functions = gs; functionNames = names }) ≡ writeRecord 50 (bodyOf gs names)
 unfolding writeProgram writeTree writeValues
-program-is gs names = ap (writeRecord 50) (trees-more functionTree gs (treesOf functionNameTree names tnil))
+program-is gs names = ap (writeRecord 50) (trees-more irFunctionTree gs (treesOf functionNameTree names tnil))
 
 module _ (K : Contract) where
   -- the functions and the names are laid down
@@ -53,42 +54,37 @@ module _ (K : Contract) where
   unfolding lowerRest lowerContract
   rest-is n gs e = rw (e, program-is gs (functionNames 0 (K .functions) []))
 
-  pub finished : {before after out : List ℕ} {to : ℕ} {r : Answer} → Body before after to → ((before body : List ℕ) → Filled body before 6 after to → Finished body (length before) out r) → Answered (lowerRest K (length before)) (length before) out r
-  finished {before} {out = out} {r = r} B f = subst (λ (a : answers.Answer). Answered a (length before) out r) (sym (rest-is (length before) (B .gs) (B .lowered))) (f before _ (B .filled))
+  pub finished : {before after out : List ℕ} {to : ℕ} {r : Answer} → Body before after to → ((before body : List ℕ) → Filled body before 6 after to → Finished body (length before) out r) → AnsweredWith (lowerRest K (length before)) (length before) out r
+  finished {before} {out = out} {r = r} B f = subst (λ (a : answers.Answer). AnsweredWith a (length before) out r) (sym (rest-is (length before) (B .gs) (B .lowered))) (f before _ (B .filled))
 
-  pub refused : (before after : List ℕ) {p : Placed} {x : LoweringError} → FunctionsPlaced K before after p → p ≡ placed.Refused x → Answered (lowerRest K (length before)) (length before) after (answer.Refused x)
+  pub refused : (before after : List ℕ) {p : Placed} {x : LoweringError} → FunctionsPlaced K before after p → p ≡ placed.Refused x → AnsweredWith (lowerRest K (length before)) (length before) after (answer.Refused x)
   unfolding lowerRest lowerContract
   refused before after h q = let F = subst (FunctionsPlaced K before after) q h in record { is = rw (F .0) refl; same-length = F .1; holds = rw (F .0) tt }
 
 -- THE CHECKS
 module _ (s : List ℕ) (n : ℕ) (out : List ℕ) (same : length out ≡ n) where
-  pub stopped : (x : Refusal) (r : Answer) → checkContract s ≡ err x → answerOf r ≡ err x → Answered (lowerSheet s n) n out r
+  pub stopped : (x : Refusal) (r : Answer) → checkContract s ≡ err x → answerOf r ≡ err x → AnsweredWith (lowerSheet s n) n out r
   unfolding lowerSheet
   stopped x r e i = record { is = rw e i; same-length = same; holds = rw e tt }
 
-pub passed : (s : List ℕ) (n : ℕ) (out : List ℕ) (r : Answer) → checkContract s ≡ ok tt → Answered (lowerRest (readContract s) n) n out r → Answered (lowerSheet s n) n out r
+pub passed : (s : List ℕ) (n : ℕ) (out : List ℕ) (r : Answer) → checkContract s ≡ ok tt → AnsweredWith (lowerRest (readContract s) n) n out r → AnsweredWith (lowerSheet s n) n out r
 unfolding lowerSheet lowerRest
-passed s n out r e a = subst (λ (b : answers.Answer). Answered b n out r) (sym (rw e)) a
+passed s n out r e a = subst (λ (b : answers.Answer). AnsweredWith b n out r) (sym (rw e)) a
 
 -- THE OUTPUT
 pub record Left (a : answers.Answer) (n : ℕ) (out : List ℕ) (r : Answer) : Type 0 where
   pub answered : answerOf r ≡ lengthOf a
   pub output : out ≡ outputOf a n
 
-pub zeros-behind : (a : answers.Answer) (n : ℕ) (out : List ℕ) (r : Answer) → Answered a n out r → Left a n (sets out (writtenBy (answerOf r)) (replicate (length out - writtenBy (answerOf r)) 0)) r
+pub zeros-behind : (a : answers.Answer) (n : ℕ) (out : List ℕ) (r : Answer) → AnsweredWith a n out r → Left a n (sets out (writtenBy (answerOf r)) (replicate (length out - writtenBy (answerOf r)) 0)) r
 zeros-behind (ok b) n out r h = record { answered = h .is; output = rw (h .is, ← h .same-length) (then-zeros b out (h .holds .0) (h .holds .1)) }
 zeros-behind (err x) n out r h = record { answered = h .is; output = rw (h .is, ← h .same-length) (then-zeros [] out (omega arith) refl) }
 
-pub written-in : (a : answers.Answer) (n : ℕ) (out : List ℕ) (r : Answer) → Answered a n out r → writtenBy (answerOf r) ≤ length out
+pub written-in : (a : answers.Answer) (n : ℕ) (out : List ℕ) (r : Answer) → AnsweredWith a n out r → writtenBy (answerOf r) ≤ length out
 written-in (ok b) n out r h = rw (h .is) (h .holds .0)
 written-in (err x) n out r h = rw (h .is) (omega arith)
 
 -- DEMAND 3
-take-padded : (n : ℕ) (l : List ℕ) → length l ≤ n → take (length l) (padded n l) ≡ l
-take-padded n [] h = refl
-take-padded zero (x ∷ l) h = absurd (omega arith)
-take-padded (suc n) (x ∷ l) h = ap (λ (r : List ℕ). x ∷ r) (take-padded n l (omega arith))
-
 abbrev number : Result Refusal ℕ → ℕ
 number (ok n) = n
 number (err r) = 0
@@ -103,10 +99,10 @@ ok-inj e = ap number e
 err-is-ok : {x : Refusal} {n : ℕ} → _≡_ {A = Result Refusal ℕ} (err x) (ok n) → ⊥
 err-is-ok e = let z : _≡_ {A = ℕ} 0 1 = ap isOk e in omega arith
 
-pub demanded : (s : List ℕ) → Bytes s → (n : ℕ) (out : List ℕ) (r : Answer) → Answered (lowerSheet s n) n out r → (k : ℕ) → r ≡ answer.Accepted k → Demand3Of s (take k (sets out (writtenBy (answerOf r)) (replicate (length out - writtenBy (answerOf r)) 0)))
+pub demanded : (s : List ℕ) → Bytes s → (n : ℕ) (out : List ℕ) (r : Answer) → AnsweredWith (lowerSheet s n) n out r → (k : ℕ) → r ≡ answer.Accepted k → Demand3Of s (take k (sets out (writtenBy (answerOf r)) (replicate (length out - writtenBy (answerOf r)) 0)))
 demanded s h n out r a k e = go (lowerSheet s n) refl a
   where
-    go : (w : answers.Answer) → lowerSheet s n ≡ w → Answered w n out r → Demand3Of s (take k (sets out (writtenBy (answerOf r)) (replicate (length out - writtenBy (answerOf r)) 0)))
+    go : (w : answers.Answer) → lowerSheet s n ≡ w → AnsweredWith w n out r → Demand3Of s (take k (sets out (writtenBy (answerOf r)) (replicate (length out - writtenBy (answerOf r)) 0)))
     go (err x) q a = absurd (err-is-ok (sym (sym (ap answerOf e) ∙ a .is)))
     go (ok b) q a =
         let size : k ≡ length b = ok-inj (sym (ap answerOf e) ∙ a .is) in

@@ -35,7 +35,7 @@ use Rattle.lower_flow.specs.declared.MadeLocal.{MadeLocal}
 use Rattle.lower_flow.specs.declared.MadeLocal.the-variants as local
 use Rattle.lower_flow.proofs.FlowSteps.{local-told}
 use Rattle.lower_flow.specs.Done.{StmtsDone}
-use Rattle.lower.specs.Whole.{begunIn, Begins, FunctionWalked}
+use Rattle.lower.specs.Whole.{begunIn, ParamsWalked, FunctionWalked}
 use Rattle.lower.specs.declared.Begun.{Begun}
 
 -- PARAMETERS: one, and those after it
@@ -69,7 +69,7 @@ begins s at n log tables scopes c h e =
 
 module _ {s : List ℕ} {at n : ℕ} {log₀ tables₀ : List ℕ} {c₀ : FnCtx} {log tables : List ℕ} {scopes : Scopes} {c : FnCtx} {i : ℕ} (g : Going s at n log₀ tables₀ c₀ log tables scopes c i) where
   -- all are held
-  pub ends : (i < n → ⊥) → Begins s at n log₀ tables₀ c₀ log tables (record { scopes = scopes; step = step.Next c })
+  pub ends : (i < n → ⊥) → ParamsWalked s at n log₀ tables₀ c₀ log tables (record { scopes = scopes; step = step.Next c })
   unfolding paramsFrom walkParams
   ends h =
       let w = g .within in
@@ -88,7 +88,7 @@ module _ {s : List ℕ} {at n : ℕ} {log₀ tables₀ : List ℕ} {c₀ : FnCtx
         rw (t .3 .is, taken (t .0) (t .1), t .0, t .2, a) (sym (one-more s (at + 4 * i) (n - (i + 1)) _ (ctxIn log tables c)) ∙ (rw m at (g .left)))
 
     -- it was refused
-    pub stops-at : Turn → (e : LoweringError) → r ≡ local.Refused e → (later : Scopes) → later .scope ≡ scopes .scope → Begins s at n log₀ tables₀ c₀ log′ tables′ (record { scopes = later; step = step.Refused e })
+    pub stops-at : Turn → (e : LoweringError) → r ≡ local.Refused e → (later : Scopes) → later .scope ≡ scopes .scope → ParamsWalked s at n log₀ tables₀ c₀ log′ tables′ (record { scopes = later; step = step.Refused e })
     stops-at t e q later z = record { is = rw q at (next-is t); sound = tt; scope = z ∙ g .scope }
 
     -- it is held under the name m, with the local k
@@ -119,7 +119,7 @@ pub record Started (s : List ℕ) (at i : ℕ) (tables log tables₁ : List ℕ)
   pub function : FunctionAt s at 39
   pub state : ctxIn log tables₁ c ≡ walk.newCtx i (startsOf tables) (stopsOf tables)
   pub count : n ≡ le 2 s (at + 12)
-  pub params : Begins s (at + 14) n log tables₁ c log₁ tables₂ b
+  pub params : ParamsWalked s (at + 14) n log tables₁ c log₁ tables₂ b
 
 abbrev last : LogCtx → Lowering LogCtx
 last d = ok (terminateIfOpen (Terminator.Return none) d)

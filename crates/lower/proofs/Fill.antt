@@ -15,7 +15,7 @@ use Rattle.definitions.specs.Records.{writeRecord}
 use Rattle.definitions.specs.Answers.{padded}
 use Rattle.definitions.proofs.Results.{by-test}
 use Rattle.lower_layout.specs.Laid.{roomOf, Laid}
-use Rattle.lower.specs.Whole.{Filled, programAnswer, Answered}
+use Rattle.lower.specs.Whole.{Filled, programAnswer, AnsweredWith}
 use Rattle.lower.specs.declared.Answer.{Answer}
 use Rattle.lower.specs.declared.Answer.the-variants as answer
 
@@ -112,7 +112,7 @@ in-room n k h = let w = room-low n in rw (le-leb k 32768 (omega (arith, w .0)), 
 
 module _ {body before out : List ℕ} {to : ℕ} (f : Filled body before 6 out to) where
   abbrev Done : List ℕ → Answer → Type 0
-  Done after r = Answered (programAnswer body (length before)) (length before) after r
+  Done after r = AnsweredWith (programAnswer body (length before)) (length before) after r
 
   pub refused-31 : roomOf (length out) < to → Done out answer.NoRoom
   refused-31 h =

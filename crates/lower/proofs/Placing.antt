@@ -15,7 +15,7 @@ use Rattle.definitions.specs.Ir.{IrFunction}
 use Rattle.definitions.specs.Lower.{Lowering, lowerFunction, lowerFunctions}
 use Rattle.definitions.specs.Lower as lowering
 use Rattle.definitions.specs.Records.{Tree, tnil, readRecords, gather, treesOf, writeTree, writeTrees}
-use Rattle.definitions.specs.ProgramSheet.{functionTree}
+use Rattle.definitions.specs.ProgramSheet.{irFunctionTree}
 use Rattle.definitions.specs.ContractSheet.{functionOf, readContract, Counts, oneIf}
 use Rattle.definitions.proofs.Sheets.Passed.{read-end}
 use Rattle.sheet.specs.Passed.{recordKind, stopOf}
@@ -32,7 +32,7 @@ use Rattle.lower_state.specs.declared.FnCtx.{FnCtx}
 use Rattle.lower_state.specs.declared.LoweringError.{LoweringError}
 use Rattle.lower_flow.specs.Flows.{stepIn}
 use Rattle.lower_layout.specs.Laid.{roomOf, Laid}
-use Rattle.lower_layout.specs.Stored.{Within, recordOf}
+use Rattle.lower_layout.specs.Stored.{BlocksWithin, recordOf}
 use Rattle.lower.specs.Whole.{StepSound, FunctionWalked, Filled, FunctionPlaced, FunctionsPlaced}
 use Rattle.lower_flow.specs.declared.Step.{Step}
 use Rattle.lower_flow.specs.declared.Step.the-variants as step
@@ -87,14 +87,14 @@ module _ {s : List ℕ} {at : ℕ} (R : Ready Class.function s at 39) {i : ℕ} 
     low : c .to ≤ 32768 → capped (c .to) ≤ 32768
     low h = rw (le-leb (c .to) 32768 h) h
 
-    pub within : c .to ≤ 32768 → Within (startsOf tables′) (stopsOf tables′) (c .counters .block) (c .to)
+    pub within : c .to ≤ 32768 → BlocksWithin (startsOf tables′) (stopsOf tables′) (c .counters .block) (c .to)
     within h = rw (le-leb (c .to) 32768 h) at (walked .1 .1 .ordered (low h))
 
     -- laid down from a log that fits, or lost
     pub put : {before after : List ℕ} {to p : ℕ} → (c .to ≤ 32768 → Laid (recordOf s at i log tables′ c) before to after p) → (32768 < c .to → (length after ≡ length before) × (p ≡ 32769)) → FunctionPlaced (readContract s) i (functionAt s at) before to after (placed.To p)
     put {before} {after} {to} {p} fits lost = (walked .0, (walked .1 .0, either (c .to) 32768 (λ h. rw (walked .1 .1 .kept (low h)) (filled-of (fits h))) over))
       where
-        over : 32768 < c .to → Filled (writeTree (functionTree (walked .0))) before to after p
+        over : 32768 < c .to → Filled (writeTree (irFunctionTree (walked .0))) before to after p
         over h =
             let l = lost h in
             let w : roomOf (length before) ≤ 32768 = room-low (length before) .0 in
@@ -111,7 +111,7 @@ pub record Along (s before : List ℕ) (after : List ℕ) (to i at : ℕ) : Type
   pub count : tops .before .functions ≡ i
   pub gs : List IrFunction
   pub left : lowerFunctions (readContract s) 0 (readContract s .functions) ≡ (lowerFunctions (readContract s) i (Left s at) >>= λ hs. ok (gs ++ hs))
-  pub filled : Filled (writeTrees (treesOf functionTree gs tnil)) before 6 after to
+  pub filled : Filled (writeTrees (treesOf irFunctionTree gs tnil)) before 6 after to
 
 trees-then : {A : Type 0} (f : A → Tree) (xs : List A) (a : A) → writeTrees (treesOf f (xs ++ (a ∷ [])) tnil) ≡ writeTrees (treesOf f xs tnil) ++ writeTree (f a)
 unfolding writeTrees
@@ -201,7 +201,7 @@ module _ {s before after : List ℕ} {to i at : ℕ} (A : Along s before after t
                 count = w;
                 gs = A .gs ++ (g ∷ []);
                 left = onward here ∙ lowered (readContract s) i (functionAt s at) (Left s (stopOf s at)) (A .gs) e;
-                filled = rw (trees-then functionTree (A .gs) g) (then-filled (A .filled) f);
+                filled = rw (trees-then irFunctionTree (A .gs) g) (then-filled (A .filled) f);
               }
 
       pub refuses : (later : List ℕ) (x : LoweringError) (p : Placed) → FunctionPlaced (readContract s) i (functionAt s at) after to later p → p ≡ placed.Refused x → FunctionsPlaced (readContract s) before later (placed.Refused x)

@@ -12,7 +12,7 @@ use Rattle.definitions.specs.Ast.{Function, Contract}
 use Rattle.definitions.specs.Ir.{IrFunction}
 use Rattle.definitions.specs.Lower.{Lowering, lowerFunction, lowerFunctions, lowerContract}
 use Rattle.definitions.specs.Records.{tnil, writeTree, writeTrees, writeRecord, treesOf}
-use Rattle.definitions.specs.ProgramSheet.{functionTree, writeProgram}
+use Rattle.definitions.specs.ProgramSheet.{irFunctionTree, writeProgram}
 use Rattle.definitions.specs.Answers as answers
 use Rattle.definitions.specs.Answers.{Refusal, refusal, lowerRefusal, lengthOf}
 use Rattle.lower_walk.specs.Stmts.{LogCtx}
@@ -47,7 +47,7 @@ soundBy n (step.Next c) = Sound c × (n ≤ c .counters .local)
 soundBy n (step.Refused e) = Unit {0}
 
 -- the n parameters at a place are walked, from the state c with the arrays log and tables to r with log′ and tables′
-pub record Begins (s : List ℕ) (at n : ℕ) (log tables : List ℕ) (c : FnCtx) (log′ tables′ : List ℕ) (r : Begun) : Type 0 where
+pub record ParamsWalked (s : List ℕ) (at n : ℕ) (log tables : List ℕ) (c : FnCtx) (log′ tables′ : List ℕ) (r : Begun) : Type 0 where
   pub is : begunIn log′ tables′ r ≡ walkParams (paramsFrom s at n) [] (ctxIn log tables c)
   pub sound : soundBy (r .scopes .count) (r .step)
   pub scope : r .scopes .scope ≡ 0
@@ -69,11 +69,11 @@ pub record Filled (x before : List ℕ) (to : ℕ) (after : List ℕ) (r : ℕ) 
 
 -- the function f with id i
 abbrev pub FunctionPlaced : Contract → ℕ → Function → (before : List ℕ) (to : ℕ) (after : List ℕ) → Placed → Type 0
-FunctionPlaced K i f before to after (placed.To r) = (g : IrFunction) × ((lowerFunction K i f ≡ ok g) × Filled (writeTree (functionTree g)) before to after r)
+FunctionPlaced K i f before to after (placed.To r) = (g : IrFunction) × ((lowerFunction K i f ≡ ok g) × Filled (writeTree (irFunctionTree g)) before to after r)
 FunctionPlaced K i f before to after (placed.Refused e) = (lowerFunction K i f ≡ err (errorOf e)) × (length after ≡ length before)
 
 abbrev pub FunctionsPlaced : Contract → (before after : List ℕ) → Placed → Type 0
-FunctionsPlaced K before after (placed.To r) = (gs : List IrFunction) × ((lowerFunctions K 0 (K .functions) ≡ ok gs) × Filled (writeTrees (treesOf functionTree gs tnil)) before 6 after r)
+FunctionsPlaced K before after (placed.To r) = (gs : List IrFunction) × ((lowerFunctions K 0 (K .functions) ≡ ok gs) × Filled (writeTrees (treesOf irFunctionTree gs tnil)) before 6 after r)
 FunctionsPlaced K before after (placed.Refused e) = (lowerFunctions K 0 (K .functions) ≡ err (errorOf e)) × (length after ≡ length before)
 
 -- ANSWERS: document 01's number and values for each
@@ -93,15 +93,15 @@ lowerRest K room = do
   ok (writeProgram p)
 
 -- an output that begins with what is written
-abbrev pub Holds : answers.Answer → List ℕ → Type 0
-Holds (ok b) out = (length b ≤ length out) × (take (length b) out ≡ b)
-Holds (err r) out = Unit {0}
+abbrev pub StartsWith : answers.Answer → List ℕ → Type 0
+StartsWith (ok b) out = (length b ≤ length out) × (take (length b) out ≡ b)
+StartsWith (err r) out = Unit {0}
 
 -- an answer, and an output of n bytes that begins with what is written
-pub record Answered (a : answers.Answer) (n : ℕ) (out : List ℕ) (r : Answer) : Type 0 where
+pub record AnsweredWith (a : answers.Answer) (n : ℕ) (out : List ℕ) (r : Answer) : Type 0 where
   pub is : answerOf r ≡ lengthOf a
   pub same-length : length out ≡ n
-  pub holds : Holds a out
+  pub holds : StartsWith a out
 
 -- a program whose functions and names are `body`
 abbrev pub programAnswer : List ℕ → (room : ℕ) → answers.Answer
@@ -110,7 +110,7 @@ programAnswer body room = do
   ok (writeRecord 50 body)
 
 abbrev pub Finished : List ℕ → (n : ℕ) → List ℕ → Answer → Type 0
-Finished body n out r = Answered (programAnswer body n) n out r
+Finished body n out r = AnsweredWith (programAnswer body n) n out r
 
 -- how much is written
 abbrev pub writtenBy : Result Refusal ℕ → ℕ

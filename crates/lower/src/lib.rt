@@ -11,7 +11,7 @@ ghost use Rattle.contract_nodes.specs.Ready.{Ready, functionAt};
 ghost use Rattle.sheet.specs.Passed.{ContractPassed};
 ghost use Rattle.lower_state.specs.State.{Sound};
 ghost use Rattle.lower_layout.specs.Laid.{roomOf};
-ghost use Rattle.lower.specs.Whole.{Begins, FunctionWalked, FunctionPlaced, FunctionsPlaced, Filled, Finished, answerOf, lowerRest, Answered, writtenBy};
+ghost use Rattle.lower.specs.Whole.{ParamsWalked, FunctionWalked, FunctionPlaced, FunctionsPlaced, Filled, Finished, answerOf, lowerRest, AnsweredWith, writtenBy};
 ghost use Rattle.lower.specs.declared.Answer.the-variants as answer;
 use contract_lookup::types::parse_ir_type;
 use format::HEAD;
@@ -79,7 +79,7 @@ fn lower_params(
     tables: &mut Tables,
 ) -> Begun
     requires { ⌜ (at + 4 * n ≤ length (now s)) × ((n ≤ 16) × (Sound ctx × (length (now s) ≤ 32768))) ⌝ }
-    ensures { λ r. ⌜ Begins (now (s .entry)) at n (now (log .entry)) (now (tables .entry)) ctx (now (log .exit)) (now (tables .exit)) r ⌝ }
+    ensures { λ r. ⌜ ParamsWalked (now (s .entry)) at n (now (log .entry)) (now (tables .entry)) ctx (now (log .exit)) (now (tables .exit)) r ⌝ }
 {
     let mut scopes = held::none();
     let mut ctx = ctx;
@@ -116,9 +116,6 @@ fn lower_params(
     }
 }
 
-// The depth left of a function's record, and of its statements.
-const FUNCTION_DEPTH: usize = 39;
-
 // The function at a place, into the log.
 fn lower_function(
     s: &[u8],
@@ -141,7 +138,16 @@ fn lower_function(
         Step::Next(ctx) => {
             let from = at + contract::PARAMS + contract::PARAM * n;
             let stop = at + read(s, at, 4);
-            let walked = lower_stmts(s, from, stop, FUNCTION_DEPTH - 1, scopes, ctx, log, tables);
+            let walked = lower_stmts(
+                s,
+                from,
+                stop,
+                contract::FUNCTION_DEPTH - 1,
+                scopes,
+                ctx,
+                log,
+                tables,
+            );
             match walked {
                 Step::Next(next) => Step::Next(return_if_open(next, log, tables)),
                 Step::Refused(e) => Step::Refused(e),
@@ -216,7 +222,7 @@ fn finish(out: &mut [u8], to: usize) -> Answer
 // A contract sheet that passed its check.
 fn lower_contract(s: &[u8], out: &mut [u8]) -> Answer
     requires { ⌜ ContractPassed (now s) ⌝ }
-    ensures { λ r. ⌜ Answered (lowerRest (readContract (now (s .entry))) (length (now (out .entry)))) (length (now (out .entry))) (now (out .exit)) r ⌝ }
+    ensures { λ r. ⌜ AnsweredWith (lowerRest (readContract (now (s .entry))) (length (now (out .entry)))) (length (now (out .entry))) (now (out .exit)) r ⌝ }
 {
     let placed = place_functions(s, out);
     match placed {
@@ -230,7 +236,7 @@ fn lower_contract(s: &[u8], out: &mut [u8]) -> Answer
 
 // The checks in their order, then the walk.
 fn lower_sheet(sheet: &[u8], out: &mut [u8]) -> Answer
-    ensures { λ r. ⌜ Answered (lowerSheet (now (sheet .entry)) (length (now (out .entry)))) (length (now (out .entry))) (now (out .exit)) r ⌝ }
+    ensures { λ r. ⌜ AnsweredWith (lowerSheet (now (sheet .entry)) (length (now (out .entry)))) (length (now (out .entry))) (now (out .exit)) r ⌝ }
 {
     match sheet::check_contract(sheet) {
         ContractCheck::Passed => lower_contract(sheet, out),

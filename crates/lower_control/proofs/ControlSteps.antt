@@ -10,6 +10,7 @@ use Rattle.definitions.specs.Ast.{BinOp, Expr, Contract}
 use Rattle.definitions.specs.Ir as defs
 use Rattle.definitions.specs.Ir.{Instruction, Terminator}
 use Rattle.definitions.specs.Lower.{Lowering, Value}
+use Rattle.definitions.proofs.Results.{told}
 use Rattle.ir.specs.declared.IrType.{IrType}
 use Rattle.ir.specs.declared.ValueId.{ValueId}
 use Rattle.ir.specs.declared.LocalId.{LocalId}
@@ -38,7 +39,7 @@ use Rattle.lower_flow.specs.declared.MadeLocal.{MadeLocal}
 use Rattle.lower_flow.specs.declared.MadeLocal.the-variants as local
 use Rattle.lower_flow.specs.declared.MadeBounds.{MadeBounds}
 use Rattle.lower_flow.specs.declared.MadeBounds.the-variants as bounds
-use Rattle.lower_flow.proofs.FlowSteps.{told, refused, handed, same-ctx, same-grown, grown-on, blocks-kept, blocks-told, local-told, blocks-on, bounds-on, changes-on, push-changes, append-changes}
+use Rattle.lower_flow.proofs.FlowSteps.{refused, handed, same-ctx, same-grown, grown-on, blocks-kept, blocks-told, local-told, blocks-on, bounds-on, changes-on, push-changes, append-changes}
 
 -- BLOCKS THAT WERE MADE are there after any step
 module _ {f : LogCtx → Lowering (LogCtx × walk.Blocks)} {log tables log₁ tables₁ : List ℕ} {c d : FnCtx} {b : Blocks} {m : MadeBlocks} (a : MakesBlocks f log tables c log₁ tables₁ m) (q : m ≡ blocks.Made d b) where

@@ -7,10 +7,10 @@ use Rattle.lower_counters.specs.declared.CountedBlock.{CountedBlock}
 use Rattle.lower_counters.specs.declared.CountedLocal.{CountedLocal}
 
 -- the next number of the kind, and the counters after it is taken
-abbrev pub numberOf : Kind → Counters → ℕ
-numberOf Kind.Value c = c .value
-numberOf Kind.Block c = c .block
-numberOf Kind.Local c = c .local
+abbrev pub nextNumber : Kind → Counters → ℕ
+nextNumber Kind.Value c = c .value
+nextNumber Kind.Block c = c .block
+nextNumber Kind.Local c = c .local
 
 abbrev pub countedUp : Kind → Counters → Counters
 countedUp Kind.Value c = record { value = suc (c .value) % 65536; block = c .block; local = c .local }

@@ -2,7 +2,7 @@
 // and `next_local` above it, take and give them back whole, for code that keeps them in its own state.
 ghost use mathlib.Core.Path.{_≡_};
 ghost use Prim.Native.Nat.{suc, _%_, _<_};
-ghost use Rattle.lower_counters.specs.Count.{numberOf, countedUp, HasRoom, countedValue, countedBlock, countedLocal};
+ghost use Rattle.lower_counters.specs.Count.{nextNumber, countedUp, HasRoom, countedValue, countedBlock, countedLocal};
 use ir::BlockId;
 use ir::LocalId;
 use ir::ValueId;
@@ -33,7 +33,7 @@ fn value_after(n: u16) -> u16
 
 // The next number of the kind.
 fn number(c: Counters, kind: Kind) -> usize
-    ensures { λ r. ⌜ r ≡ numberOf kind c ⌝ }
+    ensures { λ r. ⌜ r ≡ nextNumber kind c ⌝ }
 {
     match kind {
         Kind::Value => c.value as usize,
@@ -68,7 +68,7 @@ fn counted_up(c: Counters, kind: Kind) -> Counters
 
 pub fn fresh(c: &mut Counters, kind: Kind) -> usize
     requires { ⌜ HasRoom kind (now c) ⌝ }
-    ensures { λ r. ⌜ (r ≡ numberOf kind (now (c .entry))) × (now (c .exit) ≡ countedUp kind (now (c .entry))) ⌝ }
+    ensures { λ r. ⌜ (r ≡ nextNumber kind (now (c .entry))) × (now (c .exit) ≡ countedUp kind (now (c .entry))) ⌝ }
 {
     let before = *c;
     *c = counted_up(before, kind);
@@ -83,7 +83,7 @@ pub struct Taken {
 
 pub fn next_of(mut c: Counters, kind: Kind) -> Taken
     requires { ⌜ HasRoom kind c ⌝ }
-    ensures { λ r. ⌜ (r .number ≡ numberOf kind c) × (r .counters ≡ countedUp kind c) ⌝ }
+    ensures { λ r. ⌜ (r .number ≡ nextNumber kind c) × (r .counters ≡ countedUp kind c) ⌝ }
 {
     let number = fresh(&mut c, kind);
     Taken {

@@ -6,7 +6,7 @@ use native.Mathlib.Omega.{arith}
 use lib.ListN.{length, take, getD, length-append, length-map}
 use lib.Seq.{length-take-le}
 use Rattle.definitions.specs.Fields.{bytes}
-use Rattle.definitions.specs.Records.{small, Value, rest, node, tnil, writeItem, writeItems, writeValue, writeValues, writeRecord, writeTree, writeTrees}
+use Rattle.definitions.specs.Records.{small, FieldValue, rest, node, tnil, writeItem, writeItems, writeValue, writeValues, writeRecord, writeTree, writeTrees}
 use Rattle.ir.specs.declared.ValueId.{ValueId}
 use Rattle.lower_emit.specs.Bytes.{idBytes}
 use Rattle.lower_emit.specs.Emitted.{idsOf}
@@ -32,7 +32,7 @@ items [] = refl
 items (i ∷ is) = rw (items is)
 
 -- the list is a record's last field
-pub listed : (k n : ℕ) (vs : List Value) (front l : List ℕ) → n ≡ 6 + (length front + 2 * length l) → writeValues vs ≡ front ++ writeValues (rest (map small l) ∷ [])
+pub listed : (k n : ℕ) (vs : List FieldValue) (front l : List ℕ) → n ≡ 6 + (length front + 2 * length l) → writeValues vs ≡ front ++ writeValues (rest (map small l) ∷ [])
     → bytes 4 n ++ (bytes 2 k ++ (front ++ idBytes l)) ≡ writeTree (node 0 k vs tnil)
 unfolding writeTree writeTrees writeRecord writeValues writeValue
 listed k n vs front l e q = rw (e, q, items l) (simp (append-nil, length-append, length-ids))

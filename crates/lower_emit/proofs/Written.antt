@@ -11,7 +11,7 @@ use Rattle.definitions.specs.Ir.{IrType, tagOf, nameOf, unlessVoid, Instruction
 use Rattle.definitions.specs.Lower.{resultId}
 use Rattle.definitions.specs.Records.{small, opt, rest, writeTree, writeTrees, writeRecord, writeValues, writeValue, writeItem, writeType}
 use Rattle.definitions.specs.ProgramSheet.{instrTree, termTree}
-use Rattle.lower_walk.specs.Log.{push, close, logOf, nextValue}
+use Rattle.lower_walk.specs.Log.{logInstr, close, logOf, nextValue}
 use Rattle.lower_counters.specs.Count.{countedValue}
 use Rattle.lower_counters.specs.declared.CountedValue.{CountedValue}
 use Rattle.lower_state.specs.declared.FnCtx.{FnCtx}
@@ -108,8 +108,8 @@ term-bytes (Terminator.Return none) = refl
 term-bytes (Terminator.Return (some v)) = refl
 term-bytes Terminator.Unreachable = refl
 
-logged : (i : Instruction) {l m : List ℕ} (v : ℕ) {at r : ℕ} → Added l at (instrBytes i v) m r → logOf m (nextValue (resultType i) v) r ≡ push i (logOf l v at)
-unfolding push
+logged : (i : Instruction) {l m : List ℕ} (v : ℕ) {at r : ℕ} → Added l at (instrBytes i v) m r → logOf m (nextValue (resultType i) v) r ≡ logInstr i (logOf l v at)
+unfolding logInstr
 logged i {l} v {at} a =
     rw (← instr-bytes i v) (a .is (nextValue (resultType i) v) ∙ counted-append (nextValue (resultType i) v) (instrBytes i v) (logOf l v at))
 

@@ -4,10 +4,10 @@ use mathlib.Core.Path.{_≡_}
 use mathlib.Core.List.{List, map}
 use lib.ListN.{take}
 use Rattle.definitions.specs.Ir.{Instruction, Terminator}
-use Rattle.lower_walk.specs.Log.{push, close}
+use Rattle.lower_walk.specs.Log.{logInstr, close}
 use Rattle.ir.specs.declared.ValueId.{ValueId}
 use Rattle.lower_counters.specs.declared.CountedValue.{CountedValue}
-use Rattle.lower_state.specs.State.{logIn, Same}
+use Rattle.lower_state.specs.State.{logIn, SameFrame}
 use Rattle.lower_state.specs.declared.FnCtx.{FnCtx}
 use Rattle.lower_emit.specs.declared.Pushed.{Pushed}
 
@@ -24,16 +24,16 @@ pushedAt c v to = record { ctx = record { function = c .function; counters = v .
 
 -- `push_instr` of an instruction that gives a value, which is the next one
 pub record Pushes (i : Instruction) (before : List ℕ) (c : FnCtx) (after : List ℕ) (r : Pushed) : Type 0 where
-  pub is : logIn after (r .ctx) ≡ push i (logIn before c)
+  pub is : logIn after (r .ctx) ≡ logInstr i (logIn before c)
   pub id : r .id .0 ≡ c .counters .value
-  pub same : Same c (r .ctx)
+  pub same : SameFrame c (r .ctx)
 
 -- of one that gives none
 pub record Appends (i : Instruction) (before : List ℕ) (c : FnCtx) (after : List ℕ) (r : FnCtx) : Type 0 where
-  pub is : logIn after r ≡ push i (logIn before c)
-  pub same : Same c r
+  pub is : logIn after r ≡ logInstr i (logIn before c)
+  pub same : SameFrame c r
 
 -- a terminator's record
 pub record Closes (t : Terminator) (before : List ℕ) (c : FnCtx) (after : List ℕ) (r : FnCtx) : Type 0 where
   pub is : logIn after r ≡ close t (logIn before c)
-  pub same : Same c r
+  pub same : SameFrame c r

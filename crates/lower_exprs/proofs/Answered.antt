@@ -10,20 +10,20 @@ use lib.Dec.{eqb}
 use Rattle.definitions.specs.Ast.{BinOp, StorageField, Struct, Contract}
 use Rattle.definitions.specs.ContractSheet.{opOf}
 use Rattle.definitions.specs.Ir.{IrType, Instruction, binaryType}
-use Rattle.definitions.specs.Lower.{LoweringError, Lowering, Value, inScope, structOf, storageNamed, structNamed, fieldPosition}
+use Rattle.definitions.specs.Lower.{LoweringError, Lowering, Value, inScope, structNameOf, storageNamed, structNamed, fieldPosition}
 use Rattle.definitions.specs.Records.{pick}
 use Rattle.definitions.specs.Result.{err, ok, _>>=_, okOrElse}
 use Rattle.ir.specs.Types.{asType}
 use Rattle.ir.specs.declared.IrType as code
 use Rattle.ir.specs.declared.ValueId.{ValueId}
 use Rattle.lower_walk.specs.Held.{Held, names}
-use Rattle.lower_walk.specs.Log.{Log, push}
+use Rattle.lower_walk.specs.Log.{Log, logInstr}
 use Rattle.lower_walk.specs.Exprs.{Walked, pushValue, walkIdent, walkStorageRead, walkField}
 use Rattle.contract_lookup.specs.Answers.{slotNamed}
 use Rattle.lower_names.specs.Answers.{fieldOffset}
 use Rattle.lower_emit.specs.Emitted.{Pushes}
 use Rattle.lower_emit.specs.declared.Pushed.{Pushed}
-use Rattle.lower_state.specs.State.{logIn, Same}
+use Rattle.lower_state.specs.State.{logIn, SameFrame}
 use Rattle.lower_state.specs.declared.FnCtx.{FnCtx}
 use Rattle.lower_exprs.specs.Exprs.{loweredIn, LoweredSame, ValuedSame, AfterSame, binaryOn}
 use Rattle.lower_exprs.specs.declared.Lowered.{Lowered}
@@ -36,11 +36,11 @@ pub pushes : {i : Instruction} {before after : List ℕ} {c : FnCtx} {p : Pushed
 unfolding pushValue
 pushes {i} {before} {after} {c} {p} {r} {t} h e w =
     let is : loweredIn after (lowered.Value (p .ctx) (p .id) t) ≡ ok (pushValue i (asType t) (logIn before c)) =
-    ap (λ (l : Log). ok (l, some (p .id .0, asType t))) (h .is) ∙ ap (λ (v : ℕ). ok (push i (logIn before c), some (v, asType t))) (h .id) in
+    ap (λ (l : Log). ok (l, some (p .id .0, asType t))) (h .is) ∙ ap (λ (v : ℕ). ok (logInstr i (logIn before c), some (v, asType t))) (h .id) in
     (ap (loweredIn after) e ∙ (is ∙ sym w), subst (LoweredSame c) (sym e) (h .same))
 
 -- THE STATE after an expression and what was done with its value
-pub same-after : (c d : FnCtx) → Same c d → (r : Lowered) → LoweredSame d r → LoweredSame c r
+pub same-after : (c d : FnCtx) → SameFrame c d → (r : Lowered) → LoweredSame d r → LoweredSame c r
 same-after c d h (lowered.Value x v t) g = g ∙ h
 same-after c d h (lowered.Void x) g = g ∙ h
 same-after c d h (lowered.Refused e) g = g
@@ -75,17 +75,17 @@ atOffset base c r = r >>= (λ o. ok (pushValue (Instruction.Load IrType.U64 base
 
 pub by-offset : (K : Contract) (f base : ℕ) (ty : IrType) (c : Log) → walkField K f base ty c ≡ atOffset base c (fieldOffset K ty f)
 unfolding walkField fieldOffset
-by-offset K f base ty c = of (structOf ty) refl
+by-offset K f base ty c = of (structNameOf ty) refl
   where
-    position : (s : ℕ) (p : ℕ × Struct) → structOf ty ≡ some s → structNamed K s ≡ some p → (i : Option ℕ) → fieldPosition (p .1 .fields) f ≡ i → walkField K f base ty c ≡ atOffset base c (fieldOffset K ty f)
+    position : (s : ℕ) (p : ℕ × Struct) → structNameOf ty ≡ some s → structNamed K s ≡ some p → (i : Option ℕ) → fieldPosition (p .1 .fields) f ≡ i → walkField K f base ty c ≡ atOffset base c (fieldOffset K ty f)
     position s p a b none q = rw (a, b, q)
     position s p a b (some i) q = rw (a, b, q)
 
-    decl : (s : ℕ) → structOf ty ≡ some s → (o : Option (ℕ × Struct)) → structNamed K s ≡ o → walkField K f base ty c ≡ atOffset base c (fieldOffset K ty f)
+    decl : (s : ℕ) → structNameOf ty ≡ some s → (o : Option (ℕ × Struct)) → structNamed K s ≡ o → walkField K f base ty c ≡ atOffset base c (fieldOffset K ty f)
     decl s a none q = rw (a, q)
     decl s a (some p) q = position s p a q (fieldPosition (p .1 .fields) f) refl
 
-    of : (o : Option ℕ) → structOf ty ≡ o → walkField K f base ty c ≡ atOffset base c (fieldOffset K ty f)
+    of : (o : Option ℕ) → structNameOf ty ≡ o → walkField K f base ty c ≡ atOffset base c (fieldOffset K ty f)
     of none q = rw q
     of (some s) q = decl s q (structNamed K s) refl
 

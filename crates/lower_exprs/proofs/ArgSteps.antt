@@ -24,7 +24,7 @@ use Rattle.ir.specs.declared.IrType.{IrType}
 use Rattle.ir.specs.declared.ValueId.{ValueId}
 use Rattle.lower_emit.specs.Emitted.{idsOf}
 use Rattle.lower_state.specs.Errors.{errorOf}
-use Rattle.lower_state.specs.State.{logIn, Same}
+use Rattle.lower_state.specs.State.{logIn, SameFrame}
 use Rattle.lower_state.specs.declared.FnCtx.{FnCtx}
 use Rattle.lower_state.specs.declared.LoweringError as code
 use Rattle.lower_exprs.specs.Exprs.{valuedIn, ValuedSame}
@@ -75,7 +75,7 @@ pub record Going {A : Type 0} (s : List ℕ) (d : ℕ) (E : Held) (F : List ℕ 
   pub few : n + count (exprsFrom s arg stop) ≤ 16
   pub long : length ids ≡ 16
   pub is : goOn (readContract s) E F (exprsFrom s arg stop) (idsOf ids n) (logIn log c) ≡ R
-  pub same : Same c₀ c
+  pub same : SameFrame c₀ c
 
 -- values that are only collected
 abbrev pub collected : List ℕ → Log → Lowering (Log × List ℕ)

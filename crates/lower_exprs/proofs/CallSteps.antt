@@ -23,7 +23,7 @@ use Rattle.contract_nodes.proofs.Exprs.{CallAt}
 use Rattle.lower_walk.specs.Held.{Held}
 use Rattle.lower_walk.specs.Log.{Log}
 use Rattle.lower_walk.specs.Exprs.{Walked, walkUserCall, walkCall, walkExpr, walkArgs}
-use Rattle.contract_lookup.specs.Answers.{signatureIn, signatureNamed}
+use Rattle.contract_lookup.specs.Answers.{idIn, idNamed}
 use Rattle.ir.specs.declared.ValueId.{ValueId}
 use Rattle.lower_state.specs.State.{logIn}
 use Rattle.lower_state.specs.declared.FnCtx.{FnCtx}
@@ -36,13 +36,13 @@ twoSteps K E es C c = walkArgs K E (argsFor C es) c >>= λ p. finishCall C (p .1
 
 user-steps : (K : Contract) (E : Held) (es : Exprs) (n : ℕ) (c : Log) (o : Option (ℕ × Function))
     → okOrElse o (LoweringError.UndefinedFunction n) >>= (λ f. walkArgs K E es c >>= λ p. ok (walkUserCall (f .0) (Sema.returnType (f .1 .returnType)) (p .1) (p .0)))
-    ≡ twoSteps K E es (okOrElse (signatureIn o) (LoweringError.UndefinedFunction n) >>= λ f. ok (userCall (f .0) (f .1))) c
+    ≡ twoSteps K E es (okOrElse (idIn o) (LoweringError.UndefinedFunction n) >>= λ f. ok (userCall (f .0) (f .1))) c
 unfolding twoSteps walkArgs
 user-steps K E es n c none = refl
 user-steps K E es n c (some f) = refl
 
 callee-steps : (K : Contract) (E : Held) (es : Exprs) (n : ℕ) (c : Log) (x : Callee) → walkCall K x n (count es) (λ d. walkArgs K E es d) c ≡ twoSteps K E es (resolveFn K x n (count es)) c
-unfolding twoSteps walkArgs walkCall resolveUser signatureNamed
+unfolding twoSteps walkArgs walkCall resolveUser idNamed
 callee-steps K E es n c (contextFn k) = refl
 callee-steps K E es n c poseidonFn = go (eqb (count es) 2) refl
   where

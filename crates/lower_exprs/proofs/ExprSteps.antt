@@ -21,7 +21,7 @@ use Rattle.lower_walk.specs.Held.{Held}
 use Rattle.lower_walk.specs.Log.{Log}
 use Rattle.lower_walk.specs.Exprs.{Walked, pushValue, needValue, walkIdent, walkStorageRead, walkExpr, walkExprValue}
 use Rattle.lower_state.specs.Errors.{errorOf}
-use Rattle.lower_state.specs.State.{logIn, Same}
+use Rattle.lower_state.specs.State.{logIn, SameFrame}
 use Rattle.lower_state.specs.declared.FnCtx.{FnCtx}
 use Rattle.lower_state.specs.declared.LoweringError.{LoweringError}
 use Rattle.lower_exprs.specs.Exprs.{loweredIn, valuedIn, ValuedSame, fieldOn, binaryOn}
@@ -37,7 +37,7 @@ gave l h e = sym h ∙ ap (valuedIn l) e
 pub refused : (l : List ℕ) {r : Valued} {e : LoweringError} {W : Lowering (Log × Value)} → valuedIn l r ≡ W → r ≡ valued.Refused e → W ≡ err (errorOf e)
 refused l h e = sym h ∙ ap (valuedIn l) e
 
-pub gave-same : (c : FnCtx) {d : FnCtx} {r : Valued} {v : ValueId} {t : IrType} → ValuedSame c r → r ≡ valued.Value d v t → Same c d
+pub gave-same : (c : FnCtx) {d : FnCtx} {r : Valued} {v : ValueId} {t : IrType} → ValuedSame c r → r ≡ valued.Value d v t → SameFrame c d
 gave-same c h e = subst (ValuedSame c) e h
 
 module _ (l : List ℕ) {r : Lowered} (K : Contract) (E : Held) (x : Expr) (c : Log) (h : loweredIn l r ≡ walkExpr K E x c) where

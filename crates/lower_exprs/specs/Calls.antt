@@ -8,7 +8,7 @@ use Rattle.definitions.specs.Result.{err, ok, _>>=_, _>>_, okOrElse}
 use Rattle.definitions.specs.Ast.{Exprs, enil, Contract}
 use Rattle.definitions.specs.Ir.{IrType, Instruction}
 use Rattle.definitions.specs.Lower.{LoweringError, Lowering, Callee, contextFn, poseidonFn, merkleProofFn, userFn, callee, twoOf}
-use Rattle.contract_lookup.specs.Answers.{signatureNamed}
+use Rattle.contract_lookup.specs.Answers.{idNamed}
 use Rattle.lower_walk.specs.Log.{Log}
 use Rattle.lower_walk.specs.Exprs.{Walked, pushValue, walkUserCall}
 
@@ -20,7 +20,7 @@ pub data Called : Type 0 where
 -- a function of the contract
 unfoldable pub resolveUser : Contract → ℕ → Lowering Called
 resolveUser K n = do
-  (fid, ty) ← okOrElse (signatureNamed K n) (LoweringError.UndefinedFunction n)
+  (fid, ty) ← okOrElse (idNamed K n) (LoweringError.UndefinedFunction n)
   ok (userCall fid ty)
 
 abbrev pub resolveFn : Contract → Callee → ℕ → ℕ → Lowering Called

@@ -12,7 +12,7 @@ use Rattle.contract_nodes.specs.Ready.{exprAt}
 use Rattle.lower_names.specs.HeldNames.{heldIn}
 use Rattle.lower_names.specs.declared.Top.{Top}
 use Rattle.lower_state.specs.Errors.{errorOf}
-use Rattle.lower_state.specs.State.{logIn, Same}
+use Rattle.lower_state.specs.State.{logIn, SameFrame}
 use Rattle.lower_state.specs.declared.FnCtx.{FnCtx}
 use Rattle.lower_walk.specs.Log.{Log}
 use Rattle.lower_walk.specs.Exprs.{Walked, pushValue, walkField, walkExpr, walkExprValue}
@@ -36,12 +36,12 @@ valuedIn l (valued.Refused e) = err (errorOf e)
 
 -- the state after it is the same but for the log
 abbrev pub LoweredSame : FnCtx → Lowered → Type 0
-LoweredSame c (lowered.Value d v t) = Same c d
-LoweredSame c (lowered.Void d) = Same c d
+LoweredSame c (lowered.Value d v t) = SameFrame c d
+LoweredSame c (lowered.Void d) = SameFrame c d
 LoweredSame c (lowered.Refused e) = Unit {0}
 
 abbrev pub ValuedSame : FnCtx → Valued → Type 0
-ValuedSame c (valued.Value d v t) = Same c d
+ValuedSame c (valued.Value d v t) = SameFrame c d
 ValuedSame c (valued.Refused e) = Unit {0}
 
 -- it is, if it is after what came before

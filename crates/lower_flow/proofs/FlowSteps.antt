@@ -6,9 +6,10 @@ use native.Mathlib.Nat.{le-refl, le-trans}
 use native.Mathlib.Omega.{arith}
 use Rattle.definitions.specs.Result.{Result, err, ok, _>>=_}
 use Rattle.definitions.specs.Ir.{Instruction}
+use Rattle.definitions.proofs.Results.{told}
 use Rattle.lower_walk.specs.Log.{Log}
 use Rattle.lower_walk.specs.Stmts.{LogCtx, withLog, pushC}
-use Rattle.lower_state.specs.State.{Frame, ctxWith, ctxIn, logIn, Same, Sound, Grown}
+use Rattle.lower_state.specs.State.{Frame, ctxWith, ctxIn, logIn, SameFrame, Sound, Grown}
 use Rattle.lower_state.specs.declared.FnCtx.{FnCtx}
 use Rattle.lower_emit.specs.Emitted.{Pushes, Appends}
 use Rattle.lower_emit.specs.declared.Pushed.{Pushed}
@@ -21,9 +22,6 @@ use Rattle.lower_flow.specs.declared.MadeBounds.{MadeBounds}
 use Rattle.lower_flow.specs.declared.MadeBounds.the-variants as bounds
 
 -- what holds of a result holds of the variant that it is
-pub told : {A B : Type 0} (f : A → B) {x y : A} {z : B} → x ≡ y → f x ≡ z → f y ≡ z
-told f q e = sym (ap f q) ∙ e
-
 -- a refusal is the whole's
 pub refused : {E A B : Type 0} {x : E} {r : Result E A} (k : A → Result E B) → err x ≡ r → err x ≡ (r >>= k)
 refused k e = ap (λ r. r >>= k) e
@@ -33,18 +31,18 @@ pub handed : {E A B : Type 0} {a : A} {r : Result E A} (k : A → Result E B) �
 handed k e = ap (λ r. r >>= k) e
 
 -- a state that has changed in its log alone, in the words of the walk
-pub same-ctx : (c d : FnCtx) (before log tables : List ℕ) → Same c d → ctxIn log tables d ≡ withLog (logIn log d) (ctxIn before tables c)
+pub same-ctx : (c d : FnCtx) (before log tables : List ℕ) → SameFrame c d → ctxIn log tables d ≡ withLog (logIn log d) (ctxIn before tables c)
 same-ctx c d before log tables s = ap (λ (f : Frame). ctxWith f (logIn log d) tables) s
 
 -- the same, where its log is known
-pub same-log : (c d : FnCtx) (before log tables : List ℕ) {l : Log} → Same c d → logIn log d ≡ l → ctxIn log tables d ≡ withLog l (ctxIn before tables c)
+pub same-log : (c d : FnCtx) (before log tables : List ℕ) {l : Log} → SameFrame c d → logIn log d ≡ l → ctxIn log tables d ≡ withLog l (ctxIn before tables c)
 same-log c d before log tables s e = same-ctx c d before log tables s ∙ ap (λ (l : Log). withLog l (ctxIn before tables c)) e
 
 -- no block and no local is lost
 pub grown-still : {c : FnCtx} → Sound c → Grown c c
 grown-still {c = c} s = record { sound = s; blocks = le-refl (c .counters .block); locals = le-refl (c .counters .local) }
 
-pub same-grown : {c d : FnCtx} → Sound c → Same c d → Grown c d
+pub same-grown : {c d : FnCtx} → Sound c → SameFrame c d → Grown c d
 same-grown {c = c} {d = d} s e =
     let b : d .counters .block ≡ c .counters .block = ap (λ (f : Frame). f .blocks) e in
     let l : d .counters .local ≡ c .counters .local = ap (λ (f : Frame). f .locals) e in

@@ -12,7 +12,7 @@ use Rattle.ir.specs.Types.{asType, Coded}
 use Rattle.ir.specs.declared.IrType.{IrType}
 use Rattle.lower_counters.specs.Count.{countedLocal}
 use Rattle.lower_walk.specs.Stmts.{pushC, withLocal, initLocal}
-use Rattle.lower_state.specs.State.{withCounters, ctxIn, Same, Sound, Grown}
+use Rattle.lower_state.specs.State.{withCounters, ctxIn, SameFrame, Sound, Grown}
 use Rattle.lower_state.specs.declared.FnCtx.{FnCtx}
 use Rattle.lower_emit.specs.Emitted.{Appends}
 use Rattle.lower_flow.proofs.FlowSteps.{same-log, same-grown}
@@ -39,7 +39,7 @@ one-local t v {r = r} before log ts c {d = d} long fits q p =
     let w = same-log (counting c) d before log (set ts n r) (p .same) (p .is) ∙ ap (pushC i) (stored t {r = r} before ts c long fits q) in
     rw (w, locals-length ts n (omega arith), lt-ltb n 256 fits) refl
 
-pub local-grown : (c d : FnCtx) → Sound c → c .counters .local < 256 → Same (counting c) d → Grown c d × (c .counters .local < d .counters .local)
+pub local-grown : (c d : FnCtx) → Sound c → c .counters .local < 256 → SameFrame (counting c) d → Grown c d × (c .counters .local < d .counters .local)
 local-grown c d s fits e =
     let more : Sound (counting c) = record { blocks = s .blocks; locals = omega arith; current = s .current } in
     let g = same-grown more e in

@@ -8,6 +8,7 @@ use lib.ListN.{length, set, drop, length-map}
 use lib.Seq.{length-take-le, take-suc-set, take-set-le, take-set-lt, drop-set-lt, drop-set-add}
 use Rattle.definitions.specs.Ir.{IrType, tagOf, nameOf}
 use Rattle.definitions.specs.Records.{typeFrom}
+use Rattle.ir.proofs.Codes.{type-back}
 use Rattle.lower_state.specs.State.{localsOf, startsOf, stopsOf}
 
 -- WHERE A BLOCK STOPS
@@ -38,16 +39,7 @@ pub start-stops : (ts : List ℕ) (k v : ℕ) → k < 256 → stopsOf (set ts (2
 unfolding stopsOf
 start-stops ts k v h = drop-set-lt 512 ts (256 + k) v (omega arith)
 
--- THE TYPE OF A LOCAL: a type from its tag and name
-pub type-back : (t : IrType) → typeFrom (tagOf t) (nameOf t) ≡ t
-unfolding typeFrom
-type-back IrType.U64 = refl
-type-back IrType.BoolT = refl
-type-back IrType.FieldT = refl
-type-back (IrType.Struct n) = refl
-type-back IrType.Void = refl
-
--- a type from its code
+-- THE TYPE OF A LOCAL: a type from its code
 type-of-code : (t : IrType) (r : ℕ) → tagOf t < 65536 → r ≡ tagOf t + 65536 * nameOf t → typeFrom (r % 65536) (r / 65536) ≡ t
 type-of-code t r b e =
     let m : r % 65536 ≡ tagOf t = omega arith in

@@ -25,7 +25,7 @@ use Rattle.sheet.specs.Passed.{recordKind, stopOf}
 use Rattle.contract_nodes.specs.Ready.{treeAt, functionAt}
 use Rattle.sheet.specs.Passed.{ContractPassed}
 use Rattle.contract_nodes.proofs.Tops.{Tops, Top, next-top, contract-at, function-at}
-use Rattle.contract_lookup.specs.Answers.{signatureNamed}
+use Rattle.contract_lookup.specs.Answers.{idNamed}
 use Rattle.lower_layout.specs.Laid.{roomOf, Laid}
 use Rattle.lower_layout.specs.Stored.{isNamed, Span, stop, past}
 use Rattle.lower_layout.proofs.Storing.{laid-then}
@@ -234,14 +234,14 @@ module _ {s before now : List ℕ} {to place at : ℕ} (N : Named s before to pl
     next-old h = next (N .rows) (ap (λ (rs : Rows). N .rows ++ rs) (rows-here ∙ rw h)) (N .laid)
 
     -- a new name
-    last-id : (id : ℕ) → ContractPassed s → ((i : ℕ) (t : IrType) → signatureNamed (readContract s) n ≡ some (i, t) → id ≡ i) → id ≡ lastId
-    unfolding signatureNamed lastId
+    last-id : (id : ℕ) → ContractPassed s → ((i : ℕ) (t : IrType) → idNamed (readContract s) n ≡ some (i, t) → id ≡ i) → id ≡ lastId
+    unfolding idNamed lastId
     last-id id C h =
         let r = last-is (N .count) (functionAt s place) (functionsFrom s (stopOf s place)) in
         let q : lastFrom 0 (functionsFrom s 8) n ≡ some (lastId, r .0) = N .later n _ (rw (split, ← named) (r .1)) in
         h _ (returnType (r .0 .returnType)) (rw (contract-at C .functions, q))
 
-    pub next-new : {after : List ℕ} {end : ℕ} (id : ℕ) → ContractPassed s → N .seen n ≡ false → ((i : ℕ) (t : IrType) → signatureNamed (readContract s) n ≡ some (i, t) → id ≡ i) → Laid (writeTree (functionNameTree (n, id))) now at after end → Named s before to (stopOf s place) after end
+    pub next-new : {after : List ℕ} {end : ℕ} (id : ℕ) → ContractPassed s → N .seen n ≡ false → ((i : ℕ) (t : IrType) → idNamed (readContract s) n ≡ some (i, t) → id ≡ i) → Laid (writeTree (functionNameTree (n, id))) now at after end → Named s before to (stopOf s place) after end
     next-new id C h q x =
         next (N .rows ++ ((n, id) ∷ []))
         (ap (λ (rs : Rows). N .rows ++ rs) (rows-here ∙ rw (h, last-id id C q)) ∙ sym (append-assoc (N .rows) ((n, id) ∷ []) left))

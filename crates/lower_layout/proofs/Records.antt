@@ -22,11 +22,11 @@ use Rattle.contract_nodes.proofs.Tops.{function-at}
 use Rattle.lower_walk.specs.Layout.{slice, blockBytes, blocksBytes, paramValues, headBytes, functionBytes}
 use Rattle.lower_state.specs.State.{localsOf, startsOf, stopsOf}
 use Rattle.lower_state.specs.declared.FnCtx.{FnCtx}
-use Rattle.lower_layout.specs.Stored.{Put, Within, blocksSize, Kept, blocksOf, headOf, headSize, recordOf}
+use Rattle.lower_layout.specs.Stored.{Put, BlocksWithin, blocksSize, Kept, blocksPart, headOf, headSize, recordOf}
 use Rattle.lower_layout.proofs.Storing.{put-length, run, run-more, run-width, _then_, put-as}
 
 -- WHERE A BLOCK STANDS in the log, as the code reads it
-pub marked : {x y n to : ℕ} (ts : List ℕ) (k : ℕ) → Within (startsOf ts) (stopsOf ts) n to → k < n → n ≤ 256 → x ≡ getD ts (256 + k) 0 → y ≡ getD ts (512 + k) 0 → (x ≡ getD (startsOf ts) k 0) × (y ≡ getD (stopsOf ts) k 0) × (x ≤ y) × (y ≤ to)
+pub marked : {x y n to : ℕ} (ts : List ℕ) (k : ℕ) → BlocksWithin (startsOf ts) (stopsOf ts) n to → k < n → n ≤ 256 → x ≡ getD ts (256 + k) 0 → y ≡ getD ts (512 + k) 0 → (x ≡ getD (startsOf ts) k 0) × (y ≡ getD (stopsOf ts) k 0) × (x ≤ y) × (y ≤ to)
 unfolding startsOf stopsOf
 marked ts k w h m e f =
     let p = e ∙ sym (getD-take 256 (drop 256 ts) k 0 (omega arith) ∙ getD-drop 256 ts k 0) in
@@ -55,7 +55,7 @@ block-is log k a z h =
 pub block-length : (log : List ℕ) (k a z : ℕ) → z ≤ length log → length (blockBytes log k a z) ≡ 8 + (z - a)
 block-length log k a z h = rw (← block-is log k a z h) (simp (length-append, length-bytes, slice-length log a z h) (omega arith))
 
-pub blocks-length : (log starts stops : List ℕ) (n : ℕ) → Within starts stops n (length log) → length (run (blockAt log starts stops) 0 n) ≡ blocksSize starts stops n
+pub blocks-length : (log starts stops : List ℕ) (n : ℕ) → BlocksWithin starts stops n (length log) → length (run (blockAt log starts stops) 0 n) ≡ blocksSize starts stops n
 unfolding run blocksSize
 blocks-length log starts stops zero w = refl
 blocks-length log starts stops (suc n) w =
@@ -69,7 +69,7 @@ slice-taken (suc a) n zero l h = absurd (omega arith)
 slice-taken (suc a) n (suc t) [] h = refl
 slice-taken (suc a) n (suc t) (x ∷ l) h = slice-taken a n t l (omega arith)
 
-pub blocks-taken : (log starts stops : List ℕ) (to n : ℕ) → Within starts stops n to → run (blockAt (take to log) starts stops) 0 n ≡ run (blockAt log starts stops) 0 n
+pub blocks-taken : (log starts stops : List ℕ) (to n : ℕ) → BlocksWithin starts stops n to → run (blockAt (take to log) starts stops) 0 n ≡ run (blockAt log starts stops) 0 n
 unfolding run blockBytes
 blocks-taken log starts stops to zero w = refl
 blocks-taken log starts stops to (suc n) w =
@@ -185,25 +185,25 @@ module _ {s : List ℕ} {at : ℕ} {log tables : List ℕ} {ctx : FnCtx} (i : �
   abbrev wholeSize : ℕ
   wholeSize = headSize s at (ctx .counters .local) + blocksSize (startsOf tables) (stopsOf tables) (ctx .counters .block)
 
-  blocks-sized : length (blocksOf log tables (ctx .counters .block)) ≡ blocksSize (startsOf tables) (stopsOf tables) (ctx .counters .block)
+  blocks-sized : length (blocksPart log tables (ctx .counters .block)) ≡ blocksSize (startsOf tables) (stopsOf tables) (ctx .counters .block)
   blocks-sized = ap length (blocks-run log (startsOf tables) (stopsOf tables) 0 (ctx .counters .block)) ∙ blocks-length log (startsOf tables) (stopsOf tables) (ctx .counters .block) (λ k l. let w = K .within k l in (w .0, omega (arith, K .fits, K .log-long)))
 
   head-sized : (size : ℕ) → length (headOf s at size i tables (ctx .counters .local)) ≡ headSize s at (ctx .counters .local)
   head-sized size = head-length size i tables (ctx .counters .local) (K .ready) (omega (arith, K .sound .locals, K .tables-long))
 
-  whole-bytes : (size : ℕ) → size ≡ wholeSize → headOf s at size i tables (ctx .counters .local) ++ blocksOf log tables (ctx .counters .block) ≡ recordOf s at i log tables ctx
+  whole-bytes : (size : ℕ) → size ≡ wholeSize → headOf s at size i tables (ctx .counters .local) ++ blocksPart log tables (ctx .counters .block) ≡ recordOf s at i log tables ctx
   unfolding functionBytes
   whole-bytes size e =
-      whole-is i (functionAt s at) (localsOf tables (ctx .counters .local)) (blocksOf log tables (ctx .counters .block)) size (omega (arith, head-sized size, blocks-sized))
+      whole-is i (functionAt s at) (localsOf tables (ctx .counters .local)) (blocksPart log tables (ctx .counters .block)) size (omega (arith, head-sized size, blocks-sized))
       ∙ ap (λ (x : List ℕ). writeRecord 51 (headBytes i (functionAt s at) (localsOf tables (ctx .counters .local)) ++ x)) (rw (le-leb (ctx .to) 32768 (K .fits)) (blocks-run _ _ _ 0 _ ∙ (sym (blocks-taken log (startsOf tables) (stopsOf tables) (ctx .to) (ctx .counters .block) (K .within)) ∙ sym (blocks-run _ _ _ 0 _))))
 
-  pub blocks-room : {l m : List ℕ} {a b : ℕ} (size : ℕ) → Put (headOf s at size i tables (ctx .counters .local)) l a m b → a + wholeSize ≤ length l → b + length (blocksOf log tables (ctx .counters .block)) ≤ length m
+  pub blocks-room : {l m : List ℕ} {a b : ℕ} (size : ℕ) → Put (headOf s at size i tables (ctx .counters .local)) l a m b → a + wholeSize ≤ length l → b + length (blocksPart log tables (ctx .counters .block)) ≤ length m
   blocks-room size p h = omega (arith, p .past, put-length p, head-sized size, blocks-sized)
 
   pub whole-length : length (recordOf s at i log tables ctx) ≡ wholeSize
-  whole-length = ap length (sym (whole-bytes wholeSize refl)) ∙ (length-append (headOf s at wholeSize i tables (ctx .counters .local)) (blocksOf log tables (ctx .counters .block)) ∙ omega (arith, head-sized wholeSize, blocks-sized))
+  whole-length = ap length (sym (whole-bytes wholeSize refl)) ∙ (length-append (headOf s at wholeSize i tables (ctx .counters .local)) (blocksPart log tables (ctx .counters .block)) ∙ omega (arith, head-sized wholeSize, blocks-sized))
 
-  pub whole-put : {l m n : List ℕ} {a b c : ℕ} (size : ℕ) → Put (headOf s at size i tables (ctx .counters .local)) l a m b → Put (blocksOf log tables (ctx .counters .block)) m b n c → size ≡ wholeSize → Put (recordOf s at i log tables ctx) l a n c
+  pub whole-put : {l m n : List ℕ} {a b c : ℕ} (size : ℕ) → Put (headOf s at size i tables (ctx .counters .local)) l a m b → Put (blocksPart log tables (ctx .counters .block)) m b n c → size ≡ wholeSize → Put (recordOf s at i log tables ctx) l a n c
   whole-put size p q e = put-as (whole-bytes size e) (p then q)
 
 -- A NAME'S RECORD

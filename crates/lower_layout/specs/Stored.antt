@@ -30,8 +30,8 @@ blocksSize starts stops zero = 0
 blocksSize starts stops (suc n) = blocksSize starts stops n + (8 + (getD stops n 0 - getD starts n 0))
 
 -- the records of each of n blocks stand in the first `to` bytes of the log
-abbrev pub Within : (starts stops : List ℕ) (n to : ℕ) → Type 0
-Within starts stops n to = (k : ℕ) → k < n → (getD starts k 0 ≤ getD stops k 0) × (getD stops k 0 ≤ to)
+abbrev pub BlocksWithin : (starts stops : List ℕ) (n to : ℕ) → Type 0
+BlocksWithin starts stops n to = (k : ℕ) → k < n → (getD starts k 0 ≤ getD stops k 0) × (getD stops k 0 ≤ to)
 
 -- what the walk of the function at a place left, if its log did not run over
 pub record Kept (s : List ℕ) (at : ℕ) (log tables : List ℕ) (ctx : FnCtx) : Type 0 where
@@ -40,7 +40,7 @@ pub record Kept (s : List ℕ) (at : ℕ) (log tables : List ℕ) (ctx : FnCtx) 
   pub fits : ctx .to ≤ 32768
   pub log-long : length log ≡ 32768
   pub tables-long : length tables ≡ 768
-  pub within : Within (startsOf tables) (stopsOf tables) (ctx .counters .block) (ctx .to)
+  pub within : BlocksWithin (startsOf tables) (stopsOf tables) (ctx .counters .block) (ctx .to)
 
 -- the bytes of its record
 abbrev pub recordOf : (s : List ℕ) (at i : ℕ) (log tables : List ℕ) → FnCtx → List ℕ
@@ -56,8 +56,8 @@ pub data Span (s : List ℕ) (n : ℕ) : (at end : ℕ) → Bool → Type 0 wher
   past : {at end : ℕ} {b : Bool} → at < end → Span s n (stopOf s at) end b → Span s n at end (pick (isNamed s at n) true b)
 
 -- THE PARTS of a function's record: n blocks; the start, and how long it is
-abbrev pub blocksOf : (log tables : List ℕ) (n : ℕ) → List ℕ
-blocksOf log tables n = blocksBytes log (startsOf tables) (stopsOf tables) 0 n
+abbrev pub blocksPart : (log tables : List ℕ) (n : ℕ) → List ℕ
+blocksPart log tables n = blocksBytes log (startsOf tables) (stopsOf tables) 0 n
 
 abbrev pub headOf : (s : List ℕ) (at size i : ℕ) (tables : List ℕ) (locals : ℕ) → List ℕ
 headOf s at size i tables locals = bytes 4 size ++ (bytes 2 51 ++ headBytes i (functionAt s at) (localsOf tables locals))

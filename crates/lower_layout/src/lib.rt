@@ -12,7 +12,7 @@ ghost use Rattle.sheet.specs.Passed.{ContractPassed};
 ghost use Rattle.lower_walk.specs.Layout.{blockBytes, paramValues};
 ghost use Rattle.lower_state.specs.State.{localsOf, startsOf, stopsOf, Sound};
 ghost use Rattle.lower_layout.specs.Laid.{roomOf, Laid};
-ghost use Rattle.lower_layout.specs.Stored.{Put, blocksSize, Within, Kept, recordOf, blocksOf, headOf, headSize, namesOf, LaidOrLost, Span};
+ghost use Rattle.lower_layout.specs.Stored.{Put, blocksSize, BlocksWithin, Kept, recordOf, blocksPart, headOf, headSize, namesOf, LaidOrLost, Span};
 use contract_lookup::symbols::last_function;
 use contract_lookup::types::own_return_type;
 use contract_lookup::types::parse_ir_type;
@@ -68,7 +68,7 @@ fn stop_of(tables: &[u32], block: BlockId) -> usize
 
 // The bytes of n blocks.
 fn blocks_size(tables: &[u32], n: u16) -> usize
-    requires { ⌜ (length (now tables) ≡ 768) × ((n ≤ 256) × Within (startsOf (now tables)) (stopsOf (now tables)) n 32768) ⌝ }
+    requires { ⌜ (length (now tables) ≡ 768) × ((n ≤ 256) × BlocksWithin (startsOf (now tables)) (stopsOf (now tables)) n 32768) ⌝ }
     ensures { λ r. ⌜ (r ≡ blocksSize (startsOf (now (tables .entry))) (stopsOf (now (tables .entry))) n) × (r ≤ 32776 * n) ⌝ }
 {
     let mut size = 0;
@@ -103,9 +103,9 @@ fn lay_block(
 
 // The first n blocks.
 fn lay_blocks(n: u16, tables: &[u32], log: &[u8], out: &mut [u8], to: usize) -> usize
-    requires { ⌜ (length (now tables) ≡ 768) × ((n ≤ 256) × Within (startsOf (now tables)) (stopsOf (now tables)) n (length (now log))) ⌝ }
-    requires { ⌜ to + length (blocksOf (now log) (now tables) n) ≤ length (now out) ⌝ }
-    ensures { λ r. ⌜ Put (blocksOf (now (log .entry)) (now (tables .entry)) n) (now (out .entry)) to (now (out .exit)) r ⌝ }
+    requires { ⌜ (length (now tables) ≡ 768) × ((n ≤ 256) × BlocksWithin (startsOf (now tables)) (stopsOf (now tables)) n (length (now log))) ⌝ }
+    requires { ⌜ to + length (blocksPart (now log) (now tables) n) ≤ length (now out) ⌝ }
+    ensures { λ r. ⌜ Put (blocksPart (now (log .entry)) (now (tables .entry)) n) (now (out .entry)) to (now (out .exit)) r ⌝ }
 {
     let mut at = to;
     let mut k = 0;
@@ -233,7 +233,7 @@ pub fn lay_function(
     to: usize,
 ) -> usize
     requires { ⌜ ContractPassed (now s) × (Ready Class.function (now s) at 39 × Sound ctx) ⌝ }
-    requires { ⌜ (ctx .to ≤ 32768 → Within (startsOf (now tables)) (stopsOf (now tables)) (ctx .counters .block) (ctx .to)) ⌝ }
+    requires { ⌜ (ctx .to ≤ 32768 → BlocksWithin (startsOf (now tables)) (stopsOf (now tables)) (ctx .counters .block) (ctx .to)) ⌝ }
     ensures { λ r. ⌜ LaidOrLost (now (s .entry)) at (function .0) (now (log .entry)) (now (tables .entry)) ctx (now (out .entry)) to (now (out .exit)) r ⌝ }
 {
     if MOST < ctx.to {

@@ -11,24 +11,9 @@ use borrow.Author.Tests.{eq-eqb, ne-eqb}
 use Rattle.definitions.specs.Ir.{IrType, tagOf, nameOf}
 use Rattle.definitions.specs.Records.{typeFrom}
 use Rattle.definitions.specs.Lower.{inScope}
+use Rattle.ir.proofs.Codes.{type-back, tag-low}
 use Rattle.lower_walk.specs.Held.{names}
 use Rattle.lower_names.specs.HeldNames.{heldName, heldOf, heldIn}
-
--- a type by its tag and name
-type-back : (t : IrType) → typeFrom (tagOf t) (nameOf t) ≡ t
-unfolding typeFrom
-type-back IrType.U64 = refl
-type-back IrType.BoolT = refl
-type-back IrType.FieldT = refl
-type-back (IrType.Struct n) = refl
-type-back IrType.Void = refl
-
-pub tag-low : (t : IrType) → tagOf t ≤ 4
-tag-low IrType.U64 = omega arith
-tag-low IrType.BoolT = omega arith
-tag-low IrType.FieldT = omega arith
-tag-low (IrType.Struct n) = omega arith
-tag-low IrType.Void = omega arith
 
 low-part : (a b : ℕ) → a < 65536 → (a + 65536 * b) % 65536 ≡ a
 low-part a b h = omega arith

@@ -5,7 +5,7 @@ use Rattle.definitions.specs.Result.{err, ok, _>>=_, _>>_, okOrElse}
 use Rattle.definitions.specs.Ast.{Contract}
 use Rattle.definitions.specs.Ir as defs
 use Rattle.definitions.specs.Lower as lowering
-use Rattle.definitions.specs.Lower.{Lowering, structNamed, fieldPosition, structOf}
+use Rattle.definitions.specs.Lower.{Lowering, structNamed, fieldPosition, structNameOf}
 use Rattle.ir.specs.Types.{asType}
 use Rattle.lower_state.specs.Errors.{errorOf}
 use Rattle.lower_names.specs.declared.Lookup.{Lookup}
@@ -21,7 +21,7 @@ lookupOf lookup.NotHeld = none
 -- the offset of the field f in a value of type ty
 unfoldable pub fieldOffset : Contract → defs.IrType → ℕ → Lowering ℕ
 fieldOffset K ty f = do
-  s ← okOrElse (structOf ty) lowering.LoweringError.FieldOfNonStruct
+  s ← okOrElse (structNameOf ty) lowering.LoweringError.FieldOfNonStruct
   (_, decl) ← okOrElse (structNamed K s) (lowering.LoweringError.UnresolvedType s)
   i ← okOrElse (fieldPosition (decl .fields) f) (lowering.LoweringError.NoSuchField s f)
   ok (i * 8)

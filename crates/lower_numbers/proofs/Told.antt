@@ -1,7 +1,5 @@
 -- The numbers of the value that a value was found to be are its own. Assumes nothing.
-use mathlib.Core.Path.{_≡_, sym, subst}
-use mathlib.Core.List.{List}
-use Prim.Native.Nat.{ℕ}
+use mathlib.Core.Path.{_≡_}
 use Rattle.definitions.specs.Result.{err, Done}
 use Rattle.definitions.specs.Answers.{numbersOf, lengthNumbers, lowerRefusal}
 use Rattle.lower.specs.declared.Answer as lower
@@ -10,12 +8,9 @@ use Rattle.lower_state.specs.declared.LoweringError.{LoweringError}
 use Rattle.lower_state.specs.Errors.{errorOf}
 use Rattle.numbers.specs.declared.Numbers.{Numbers}
 use Rattle.numbers.specs.Tells.{Tells}
+use Rattle.numbers.proofs.Told.{found}
 use Rattle.sheet.specs.declared.ContractCheck.{ContractCheck}
 use Rattle.sheet.specs.Forms.{checkOf}
-
-module _ {A : Type 0} (f : A → List ℕ) where
-  found : {n : Numbers} {a x : A} → a ≡ x → Tells n (f x) → Tells n (f a)
-  found {n} q = subst (λ (a : A). Tells n (f a)) (sym q)
 
 pub of-lowering : {n : Numbers} {e x : LoweringError} → e ≡ x → Tells n (numbersOf {A = Done} (err (lowerRefusal (errorOf x)))) → Tells n (numbersOf {A = Done} (err (lowerRefusal (errorOf e))))
 of-lowering = found (λ (e : LoweringError). numbersOf {A = Done} (err (lowerRefusal (errorOf e))))

@@ -12,11 +12,12 @@ use Rattle.definitions.specs.ContractSheet.{readContract}
 use Rattle.definitions.specs.Ir.{Instruction, Terminator}
 use Rattle.definitions.specs.Lower as lowering
 use Rattle.definitions.specs.Lower.{Lowering, inScope, storageNamed, count}
+use Rattle.definitions.proofs.Results.{told}
 use Rattle.sheet.specs.Passed.{recordKind}
 use Rattle.contract_nodes.specs.Ready.{Ready, ReadyAll, exprAt, exprsFrom, stmtAt}
 use Rattle.sheet.specs.Passed.{ContractPassed}
 use Rattle.contract_nodes.proofs.Stmts.{let-at, constrain-at, assign-at, write-at, return-at, emit-at, expr-stmt-at}
-use Rattle.lower_walk.specs.Log.{Log, push}
+use Rattle.lower_walk.specs.Log.{Log, logInstr}
 use Rattle.lower_walk.specs.Held.{Held, names}
 use Rattle.lower_walk.specs.Exprs.{walkExprValue, walkArgs}
 use Rattle.lower_walk.specs.Stmts.{LogCtx, withLog, terminate, initLocal, walkReturn, walkStmt}
@@ -26,7 +27,7 @@ use Rattle.ir.specs.declared.LocalId.{LocalId}
 use Rattle.ir.specs.declared.Name.{Name}
 use Rattle.ir.specs.declared.ValueId.{ValueId}
 use Rattle.lower_state.specs.Errors.{errorOf}
-use Rattle.lower_state.specs.State.{ctxIn, logIn, Same, Sound}
+use Rattle.lower_state.specs.State.{ctxIn, logIn, SameFrame, Sound}
 use Rattle.lower_state.specs.declared.FnCtx.{FnCtx}
 use Rattle.lower_state.specs.declared.LoweringError.{LoweringError}
 use Rattle.lower_state.specs.declared.LoweringError.the-variants as code
@@ -51,7 +52,7 @@ use Rattle.lower_flow.specs.declared.MadeLocal.{MadeLocal}
 use Rattle.lower_flow.specs.declared.MadeLocal.the-variants as local
 use Rattle.lower_flow.specs.declared.Stepped.{Stepped}
 use Rattle.lower_flow.specs.declared.Stepped.the-variants as stepped
-use Rattle.lower_flow.proofs.FlowSteps.{told, refused, handed, same-ctx, same-log, same-grown, grown-on, local-told}
+use Rattle.lower_flow.proofs.FlowSteps.{refused, handed, same-ctx, same-log, same-grown, grown-on, local-told}
 use Rattle.lower_flow.specs.Done.{StmtDone}
 
 -- where a statement starts: its place in the sheet, the names that are held, the arrays and the state
@@ -114,7 +115,7 @@ EmitGoing s at d entries top log c = λ (stop : ℕ). Going s (d - 1) (heldIn en
 
 -- a write to the slot k, and a StorageWrite, once the slot of its name is known
 abbrev written : Contract → Held → Expr → LogCtx → ℕ → Lowering (LogCtx × Held)
-written K es x c k = walkExprValue K es x (c .log) >>= λ p. ok (withLog (push (Instruction.StateWrite k (p .1 .0)) (p .0)) c, es)
+written K es x c k = walkExprValue K es x (c .log) >>= λ p. ok (withLog (logInstr (Instruction.StateWrite k (p .1 .0)) (p .0)) c, es)
 
 slotted : (K : Contract) (scope : ℕ) (es : Held) (p n : ℕ) (x : Expr) (c : LogCtx) {o : Option ℕ} → o ≡ slotNamed K n → (okOrElse o (lowering.LoweringError.UndefinedVariable n) >>= written K es x c) ≡ walkStmt K scope es (Stmt.StorageWrite p n x) c
 unfolding slotNamed walkStmt
@@ -133,7 +134,7 @@ module _ {a : Start} where
   done i h g = record { is = h ∙ ap (λ (x : Stmt). walkStmt (readContract (a .s)) (a .top .scope) (held a) x (ctx a)) (sym i); grown = g }
 
   -- only the log changes
-  logged : {x : Stmt} {log′ : List ℕ} {e : FnCtx} {l : Log} → stmtAt (a .s) (a .at) ≡ x → Sound (a .c) → Same (a .c) e → logIn log′ e ≡ l → ok (withLog l (ctx a), held a) ≡ walkStmt (readContract (a .s)) (a .top .scope) (held a) x (ctx a) → Done a log′ (a .tables) (stepped.Next e)
+  logged : {x : Stmt} {log′ : List ℕ} {e : FnCtx} {l : Log} → stmtAt (a .s) (a .at) ≡ x → Sound (a .c) → SameFrame (a .c) e → logIn log′ e ≡ l → ok (withLog l (ctx a), held a) ≡ walkStmt (readContract (a .s)) (a .top .scope) (held a) x (ctx a) → Done a log′ (a .tables) (stepped.Next e)
   logged {log′ = log′} {e = e} i sound same l h = done i (ap (λ (x : LogCtx). ok (x, held a)) (same-log (a .c) e (a .log) log′ (a .tables) same l) ∙ h) (same-grown sound same)
 
   module _ {d : ℕ} {log₁ : List ℕ} {r : Valued} where

@@ -51,8 +51,8 @@ abbrev pub ctxIn : (log tables : List ℕ) → FnCtx → LogCtx
 ctxIn log tables c = ctxWith (frameOf c) (logIn log c) tables
 
 -- the log alone has changed
-abbrev pub Same : FnCtx → FnCtx → Type 0
-Same c d = frameOf d ≡ frameOf c
+abbrev pub SameFrame : FnCtx → FnCtx → Type 0
+SameFrame c d = frameOf d ≡ frameOf c
 
 -- up to 256 blocks and locals, and the current block is one of them
 pub record Sound (c : FnCtx) : Type 0 where

@@ -12,6 +12,7 @@ use Rattle.definitions.specs.Grammar.{Class}
 use Rattle.definitions.specs.ContractSheet.{readContract}
 use Rattle.definitions.specs.Ir.{IrType}
 use Rattle.definitions.specs.Lower.{Lowering}
+use Rattle.definitions.proofs.Results.{told}
 use Rattle.ir.specs.Types.{asType}
 use Rattle.sheet.specs.Passed.{recordKind, stopOf}
 use Rattle.contract_nodes.specs.Ready.{stmtAt, stmtsFrom, Ready, ReadyAll}
@@ -39,7 +40,7 @@ use Rattle.lower_flow.specs.declared.MadeBlocks.{MadeBlocks}
 use Rattle.lower_flow.specs.declared.MadeBlocks.the-variants as blocks
 use Rattle.lower_flow.specs.declared.MadeBounds.{MadeBounds}
 use Rattle.lower_flow.specs.declared.MadeBounds.the-variants as bounds
-use Rattle.lower_flow.proofs.FlowSteps.{told, refused, handed, grown-on, blocks-kept, blocks-told, bounds-told}
+use Rattle.lower_flow.proofs.FlowSteps.{refused, handed, grown-on, blocks-kept, blocks-told, bounds-told}
 use Rattle.ir.specs.declared.LocalId.{LocalId}
 use Rattle.ir.specs.declared.Name.{Name}
 use Rattle.ir.specs.declared.IrType as ir

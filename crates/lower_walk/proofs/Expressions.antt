@@ -11,7 +11,7 @@ use Rattle.definitions.specs.Ast.{Expr, Exprs, enil, econs, Contract}
 use Rattle.definitions.specs.Ir.{IrType, Instruction, binaryType, unlessVoid}
 use Rattle.definitions.specs.Sema.{functionNamed}
 use Rattle.definitions.specs.Sema
-use Rattle.definitions.specs.Lower.{LoweringError, Lowering, FnCtx, Scope, Value, Lowered, Callee, contextFn, poseidonFn, merkleProofFn, userFn, callee, twoOf, count, structOf, storageNamed, structNamed, fieldPosition, pushInstr, lowerCall, lowerExpr, lowerArgs, lowerExprValue}
+use Rattle.definitions.specs.Lower.{LoweringError, Lowering, FnCtx, Scope, Value, Lowered, Callee, contextFn, poseidonFn, merkleProofFn, userFn, callee, twoOf, count, structNameOf, storageNamed, structNamed, fieldPosition, pushInstr, lowerCall, lowerExpr, lowerArgs, lowerExprValue}
 use Rattle.definitions.specs.Lower
 use Rattle.definitions.proofs.Results.{by-test}
 use Rattle.lower_walk.specs.Log.{Log}
@@ -71,7 +71,7 @@ module _ (K : Contract) {Q : List ℕ} {t : Scope} {up : List Scope} {d : LogCtx
     expr-in (Expr.MappingRead p n x) N = bad LoweringError.MappingRead
     expr-in (Expr.FieldAccess p f x) N =
         bindV _ _ (value-same (expr-in x N)) λ c l g n m y le e N.
-        bindO (structOf y) LoweringError.FieldOfNonStruct _ _ λ j.
+        bindO (structNameOf y) LoweringError.FieldOfNonStruct _ _ λ j.
         bindO (structNamed K j) (LoweringError.UnresolvedType j) _ _ λ d.
         bindO (fieldPosition (d .1 .fields) f) (LoweringError.NoSuchField j f) _ _ λ i.
         value-push IrType.U64 le (λ q. ap (λ (z : ℕ). Instruction.Load IrType.U64 z (i * 8)) (e q)) N

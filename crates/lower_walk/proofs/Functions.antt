@@ -13,7 +13,7 @@ use Rattle.definitions.specs.Ast.{Param, Function, Contract}
 use Rattle.definitions.specs.Ir.{Terminator, IrFunction}
 use Rattle.definitions.specs.Lower.{LoweringError, Lowering, FnCtx, Scope, Value, emptyBlock, freshValue, setScopes, parseIrType, irFunction, lowerParams, lowerFunction}
 use Rattle.definitions.specs.Records.{writeTree, writeTrees}
-use Rattle.definitions.specs.ProgramSheet.{functionTree}
+use Rattle.definitions.specs.ProgramSheet.{irFunctionTree}
 use Rattle.definitions.proofs.Runs.Safe.{in-nil, in-one}
 use Rattle.definitions.proofs.Runs.Blocks.{only}
 use Rattle.lower_walk.specs.Log.{counted}
@@ -63,8 +63,8 @@ start-parts starts stops l m =
 
 -- ---- what a walked function is to the lowered one
 pub record Whole (i : ℕ) (f : Function) (g : IrFunction) (c : LogCtx) : Type 0 where
-  pub kept : c .log .at ≤ 32768 → writeTree (functionTree g) ≡ functionBytes i f c
-  pub lost : 32768 < c .log .at → 32768 < length (writeTree (functionTree g))
+  pub kept : c .log .at ≤ 32768 → writeTree (irFunctionTree g) ≡ functionBytes i f c
+  pub lost : 32768 < c .log .at → 32768 < length (writeTree (irFunctionTree g))
   pub length-is : c .log .at ≤ 32768 → length (c .log .bytes) ≡ c .log .at
   pub ordered : c .log .at ≤ 32768 → (k : ℕ) → k < c .nextBlock → (getD (c .starts) k 0 ≤ getD (c .stops) k 0) × (getD (c .stops) k 0 ≤ c .log .at)
 

@@ -15,7 +15,7 @@ use Rattle.definitions.specs.Ir.{IrType, BasicBlock, IrFunction, find}
 use Rattle.definitions.specs.Lower.{FnCtx, irFunction}
 use Rattle.definitions.specs.Verify.{blockIds}
 use Rattle.definitions.specs.Records.{tnil, treesOf, writeItem, writeValue, writeValues, writeRecord, writeTree, writeTrees}
-use Rattle.definitions.specs.ProgramSheet.{blockTree, functionTree}
+use Rattle.definitions.specs.ProgramSheet.{blockTree, irFunctionTree}
 use Rattle.definitions.proofs.Results.{by-test}
 use Rattle.definitions.proofs.Runs.Safe.{find-hit, find-miss, in-nil}
 use Rattle.lower_walk.specs.Stmts.{LogCtx}
@@ -45,7 +45,7 @@ blocks-are log starts stops k (suc n) (b ∷ bs) e h =
     (blocks-are log starts stops (suc k) n bs t (λ j d le f. h j d (omega arith) (find-miss j b bs (ne-eqb (b .id) j (λ q. omega arith)) ∙ f)))
 
 -- ---- a function
-pub function-is : (i : ℕ) (f : Function) (c : FnCtx) (d : LogCtx) {cur : ℕ} → c .locals ≡ d .locals → Parts true [] cur (d .nextBlock) (c .blocks) (d .log .bytes) (record { starts = d .starts; stops = d .stops }) → writeTree (functionTree (irFunction i f (paramValues 0 (f .params)) c)) ≡ functionBytes i f d
+pub function-is : (i : ℕ) (f : Function) (c : FnCtx) (d : LogCtx) {cur : ℕ} → c .locals ≡ d .locals → Parts true [] cur (d .nextBlock) (c .blocks) (d .log .bytes) (record { starts = d .starts; stops = d .stops }) → writeTree (irFunctionTree (irFunction i f (paramValues 0 (f .params)) c)) ≡ functionBytes i f d
 unfolding writeTree functionBytes
 function-is i f c d e P = ap₂ (λ (ls : List IrType) (x : List ℕ). writeRecord 51 (headBytes i f ls ++ x)) e (blocks-are (d .log .bytes) (d .starts) (d .stops) 0 (d .nextBlock) (c .blocks) (P .ids) (λ j b le h. slice-is (P .each j b h (λ q. in-nil q) (λ q. refl))))
 
@@ -55,7 +55,7 @@ unfolding writeTree writeRecord
 weight-least [] = omega arith
 weight-least (b ∷ bs) = simp length-append (omega (arith, weight-least bs))
 
-pub log-least : (g : IrFunction) {e : Bool} {Q : List ℕ} {cur count : ℕ} {out : List ℕ} {k : Marks} → Parts e Q cur count (g .blocks) out k → (n : ℕ) → n < length out → n < length (writeTree (functionTree g))
+pub log-least : (g : IrFunction) {e : Bool} {Q : List ℕ} {cur count : ℕ} {out : List ℕ} {k : Marks} → Parts e Q cur count (g .blocks) out k → (n : ℕ) → n < length out → n < length (writeTree (irFunctionTree g))
 unfolding writeTree writeRecord
 log-least g P n h = simp length-append (omega (arith, weight-least (g .blocks), P .total))
 

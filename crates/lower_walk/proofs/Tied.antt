@@ -15,7 +15,7 @@ use Rattle.definitions.specs.Records.{writeTree}
 use Rattle.definitions.specs.ProgramSheet.{instrTree, termTree}
 use Rattle.definitions.proofs.Results.{by-test}
 use Rattle.definitions.proofs.Sheets.Trees.{tree-long}
-use Rattle.lower_walk.specs.Log.{room, Log, append, nextValue, counted, push, close}
+use Rattle.lower_walk.specs.Log.{room, Log, append, nextValue, counted, logInstr, close}
 use Rattle.lower_walk.specs.Stmts.{LogCtx, pushC, terminate, switchTo}
 use Rattle.lower_walk.proofs.Parts.{Marks, Parts}
 use Rattle.lower_walk.proofs.Prims.{stopped, started, true-false, push-parts, term-parts, turn-parts, ended-is}
@@ -91,7 +91,7 @@ module _ {Q : List ℕ} {t : Scope} {up : List Scope} where
 
   -- an instruction
   pub push-now : {m : ℕ} {f : Bool} {c : FnCtx} {d : LogCtx} {i j : Instruction} → m ≤ 5 → (f ≡ false → i ≡ j) → Now m Q t up false f c d → After f (λ g. Now 0 Q t up false g (pushInstr i c) (pushC j d))
-  unfolding push pushInstr
+  unfolding logInstr pushInstr
   push-now {i = i} {j} few same (now fid cur count v ls bs l k T) =
       then (append-tied T false (update cur (addInstr (node i v)) bs) (afterResult (resultType i) v) (nextValue (resultType j) (l .value)) (λ a k. k) (writeTree (instrTree (node i v))) (writeTree (instrTree (node j (l .value))))
       (λ val q. rw (← same q, val))

@@ -7,10 +7,10 @@ use lib.Dec.{eqb}
 use Rattle.definitions.specs.Result.{err, ok, _>>=_, _>>_, okOrElse}
 use Rattle.definitions.specs.Ast.{Expr, Exprs, enil, econs, Contract}
 use Rattle.definitions.specs.Ir.{IrType, Instruction, binaryType, unlessVoid}
-use Rattle.definitions.specs.Lower.{LoweringError, Lowering, Value, Callee, contextFn, poseidonFn, merkleProofFn, userFn, callee, twoOf, count, resultValue, inScope, structOf, storageNamed, structNamed, fieldPosition}
+use Rattle.definitions.specs.Lower.{LoweringError, Lowering, Value, Callee, contextFn, poseidonFn, merkleProofFn, userFn, callee, twoOf, count, resultValue, inScope, structNameOf, storageNamed, structNamed, fieldPosition}
 use Rattle.definitions.specs.Sema.{functionNamed}
 use Rattle.definitions.specs.Sema
-use Rattle.lower_walk.specs.Log.{Log, push}
+use Rattle.lower_walk.specs.Log.{Log, logInstr}
 use Rattle.lower_walk.specs.Held.{Held, names}
 
 -- the log after an expression, and its value, if it gives one
@@ -18,7 +18,7 @@ abbrev pub Walked : Type 0
 Walked = Log × Option Value
 
 unfoldable pub pushValue : Instruction → IrType → Log → Walked
-pushValue i t c = (push i c, some (c .value, t))
+pushValue i t c = (logInstr i c, some (c .value, t))
 
 unfoldable pub needValue : Walked → Lowering (Log × Value)
 needValue p = elim (p .1) [ none ↦ err LoweringError.VoidAsValue | some v ↦ ok (p .0, v) ]
@@ -37,14 +37,14 @@ walkStorageRead K n c = do
 -- the field f of the value `base` of type ty
 unfoldable pub walkField : Contract → ℕ → ℕ → IrType → Log → Lowering Walked
 walkField K f base ty c = do
-  s ← okOrElse (structOf ty) LoweringError.FieldOfNonStruct
+  s ← okOrElse (structNameOf ty) LoweringError.FieldOfNonStruct
   (_, decl) ← okOrElse (structNamed K s) (LoweringError.UnresolvedType s)
   i ← okOrElse (fieldPosition (decl .fields) f) (LoweringError.NoSuchField s f)
   ok (pushValue (Instruction.Load IrType.U64 base (i * 8)) IrType.U64 c)
 
 -- a call of a function, its arguments' values being known
 unfoldable pub walkUserCall : ℕ → IrType → List ℕ → Log → Walked
-walkUserCall fid ty args c = (push (Instruction.Call fid args ty) c, resultValue (unlessVoid ty) (c .value))
+walkUserCall fid ty args c = (logInstr (Instruction.Call fid args ty) c, resultValue (unlessVoid ty) (c .value))
 
 unfoldable pub walkCall : Contract → Callee → ℕ → ℕ → (Log → Lowering (Log × List ℕ)) → Log → Lowering Walked
 walkCall K (contextFn k) n many walkArguments c = ok (pushValue (Instruction.ContextRead k) IrType.U64 c)

@@ -34,8 +34,8 @@ abbrev pub counted : ℕ → Log → Log
 counted v c = record { value = v; at = c .at; bytes = c .bytes }
 
 -- `push_instr`
-unfoldable pub push : Instruction → Log → Log
-push i c = counted (nextValue (resultType i) (c .value)) (append (writeTree (instrTree (record { result = resultId (resultType i) (c .value); instr = i }))) c)
+unfoldable pub logInstr : Instruction → Log → Log
+logInstr i c = counted (nextValue (resultType i) (c .value)) (append (writeTree (instrTree (record { result = resultId (resultType i) (c .value); instr = i }))) c)
 
 -- `set_terminator`
 unfoldable pub close : Terminator → Log → Log

@@ -11,7 +11,7 @@ use Rattle.definitions.specs.Ast.{BinOp, Expr, OptExpr, absent, present, Stmt, 
 use Rattle.definitions.specs.Ir.{IrType, Instruction, Terminator}
 use Rattle.definitions.specs.Records.{pick}
 use Rattle.definitions.specs.Lower.{LoweringError, Lowering, inScope, storageNamed}
-use Rattle.lower_walk.specs.Log.{Log, push, close}
+use Rattle.lower_walk.specs.Log.{Log, logInstr, close}
 use Rattle.lower_walk.specs.Held.{HeldName, Held, names}
 use Rattle.lower_walk.specs.Exprs.{walkExpr, walkExprValue, walkArgs}
 
@@ -29,7 +29,7 @@ abbrev pub withLog : Log → LogCtx → LogCtx
 withLog l c = record { fid = c .fid; log = l; nextBlock = c .nextBlock; current = c .current; ended = c .ended; locals = c .locals; starts = c .starts; stops = c .stops }
 
 abbrev pub pushC : Instruction → LogCtx → LogCtx
-pushC i c = withLog (push i (c .log)) c
+pushC i c = withLog (logInstr i (c .log)) c
 
 -- `set_terminator`
 unfoldable pub terminate : Terminator → LogCtx → LogCtx
@@ -145,14 +145,14 @@ unfoldable mutual
   walkStmt K n es (Stmt.Assign p name e) c = do
     (l, (v, _)) ← walkExprValue K es e (c .log)
     (local, _) ← okOrElse (inScope name (names es)) (LoweringError.UndefinedVariable name)
-    ok (withLog (push (Instruction.WriteLocal local v) l) c, es)
+    ok (withLog (logInstr (Instruction.WriteLocal local v) l) c, es)
   walkStmt K n es (Stmt.Constrain p e) c = do
     (l, (v, _)) ← walkExprValue K es e (c .log)
-    ok (withLog (push (Instruction.Assert v) l) c, es)
+    ok (withLog (logInstr (Instruction.Assert v) l) c, es)
   walkStmt K n es (Stmt.StorageWrite p name e) c = do
     (slot, _) ← okOrElse (storageNamed K name) (LoweringError.UndefinedVariable name)
     (l, (v, _)) ← walkExprValue K es e (c .log)
-    ok (withLog (push (Instruction.StateWrite slot v) l) c, es)
+    ok (withLog (logInstr (Instruction.StateWrite slot v) l) c, es)
   walkStmt K n es (Stmt.If p cond pt thenBody elseBody) c = do
     (c, b) ← enterIf K es cond c
     c ← walkStmts K (suc n) es thenBody c
@@ -172,7 +172,7 @@ unfoldable mutual
     ok (c, es)
   walkStmt K n es (Stmt.Emit p name args) c = do
     (l, vs) ← walkArgs K es args (c .log)
-    ok (withLog (push (Instruction.Emit name vs) l) c, es)
+    ok (withLog (logInstr (Instruction.Emit name vs) l) c, es)
   walkStmt K n es (Stmt.ExprStmt p e) c = do
     (l, _) ← walkExpr K es e (c .log)
     ok (withLog l c, es)

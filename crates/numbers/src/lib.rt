@@ -41,6 +41,16 @@ pub fn placed(number: usize, place: usize) -> Numbers
     }
 }
 
+// A refusal with a place and what was found there.
+pub fn found(number: usize, place: usize, what: usize) -> Numbers
+    ensures { λ r. ⌜ Tells r (number ∷ place ∷ what ∷ []) ⌝ }
+{
+    Numbers {
+        count: 3,
+        list: [number, place, what, 0, 0, 0],
+    }
+}
+
 // A refusal of a name, or of a function.
 pub fn named(number: usize, name: u16) -> Numbers
     ensures { λ r. ⌜ Tells r (number ∷ name ∷ []) ⌝ }

@@ -12,7 +12,7 @@ use Rattle.definitions.specs.Fields.{le}
 use Rattle.definitions.specs.Ir.{Instruction}
 use Rattle.definitions.specs.Records.{optFrom, readRecords, readItems, readItem, sizeOf}
 use Rattle.definitions.proofs.Sheets.Steps.{low}
-use Rattle.program_nodes.specs.Offsets.{paramCountAt, paramsAt, recordsAt, fieldsAt}
+use Rattle.program_nodes.specs.Offsets.{paramCountAt, firstParamAt, recordsAt, fieldsAt}
 use Rattle.program_nodes.specs.Positions.{kindHere, stopHere, instrHere, paramsHere, BlockFrom, BlocksFrom, FunctionHere}
 use Rattle.program_nodes.specs.Definitions.{Definition, paramDefinitions, resultDefinition, blockDefinitions, blocksDefinitions, definitionsOf, firstDefinition, placeOf, firstPlace}
 use Rattle.program_nodes.specs.declared.Function.{Function}
@@ -67,7 +67,7 @@ blocks-ascend (suc n) {s} {b} {end} lo h l f = go (at-blocks f) (λ g. blocks-as
 pub ascends : {s : List ℕ} {f : Function} → FunctionHere s f → Ascends (f .at) (definitionsOf s f)
 unfolding definitionsOf paramsHere
 ascends {s} {f} F =
-    params-ascend (le 2 s (f .at + paramCountAt)) s (f .at + paramsAt) (f .at) (f .first) (blocksDefinitions (readRecords s (f .first) (f .stop))) (omega arith) (omega (arith, F .first-is))
+    params-ascend (le 2 s (f .at + paramCountAt)) s (f .at + firstParamAt) (f .at) (f .first) (blocksDefinitions (readRecords s (f .first) (f .stop))) (omega arith) (omega (arith, F .first-is))
     (blocks-ascend (suc (f .stop - f .first)) (f .first) (omega arith) (omega arith) (F .blocks))
 
 -- A VALUE IS NEW exactly if its first place is its own

@@ -17,7 +17,7 @@ use Rattle.definitions.specs.Ir.{IrType, Instruction, resultType}
 use Rattle.definitions.specs.Grammar.{valueAndType}
 use Rattle.definitions.specs.Records.{pick, Item, okItem, okItems, optFrom, numberOf, typeOf, readItem, readItems, sizeOf, readRecords}
 use Rattle.definitions.proofs.Sheets.Passed.{read-end, both-true}
-use Rattle.program_nodes.specs.Offsets.{paramCountAt, paramsAt, recordsAt, fieldsAt}
+use Rattle.program_nodes.specs.Offsets.{paramCountAt, firstParamAt, recordsAt, fieldsAt}
 use Rattle.program_nodes.specs.Positions.{Numbered, typeHere, TypeAt, kindHere, stopHere, instrHere, InstrPlace, BlockFrom, BlocksFrom, paramsHere, FunctionHere}
 use Rattle.program_nodes.specs.Definitions.{Definition, paramDefinitions, resultDefinition, blockDefinitions, blocksDefinitions, paramsOf, definitionsOf, firstDefinition, placeOf, typeOfDefinition, firstPlace, firstType}
 use Rattle.program_nodes.specs.declared.Function.{Function}
@@ -99,7 +99,7 @@ pub param-none : {n : ℕ} (s : List ℕ) (p v : ℕ) → n ≡ 0 → firstPlace
 unfolding readItems firstDefinition
 param-none s p v e = rw e refl
 
-pub params-read : {n : ℕ} (s : List ℕ) (f : Function) → n ≡ le 2 s (f .at + paramCountAt) → paramDefinitions (f .at + paramsAt) (paramsFrom n s (f .at + paramsAt)) ≡ paramsOf s f
+pub params-read : {n : ℕ} (s : List ℕ) (f : Function) → n ≡ le 2 s (f .at + paramCountAt) → paramDefinitions (f .at + firstParamAt) (paramsFrom n s (f .at + firstParamAt)) ≡ paramsOf s f
 unfolding paramsHere
 params-read s f e = rw e refl
 
@@ -204,7 +204,7 @@ blocks-known (suc n) {s} {b} {end} lo h l i f = go (at-blocks f) (λ g k. blocks
 module _ {s : List ℕ} {f : Function} (F : FunctionHere s f) where
   fn-params : All (ParamDefinition s (f .at) (f .first)) (paramsOf s f)
   unfolding paramsHere
-  fn-params = params-known (le 2 s (f .at + paramCountAt)) s (f .at + paramsAt) (f .at) (f .first) (omega arith) (omega (arith, F .first-is)) (omega (arith, F .low, F .inside)) (F .params)
+  fn-params = params-known (le 2 s (f .at + paramCountAt)) s (f .at + firstParamAt) (f .at) (f .first) (omega arith) (omega (arith, F .first-is)) (omega (arith, F .low, F .inside)) (F .params)
 
   fn-instrs : All (InstrDefinition s (f .first)) (blocksDefinitions (readRecords s (f .first) (f .stop)))
   fn-instrs = blocks-known (suc (f .stop - f .first)) (f .first) (omega arith) (omega arith) (F .inside) (F .blocks)

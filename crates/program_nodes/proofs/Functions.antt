@@ -9,15 +9,15 @@ use lib.ListN.{length}
 use Rattle.definitions.specs.Fields.{le}
 use Rattle.definitions.specs.Ir.{IrFunction}
 use Rattle.definitions.specs.Grammar.{Class, classNo, Entry, upTo, irType, valueAndType, Field, counted, Pattern, done, many, rows}
-use Rattle.definitions.specs.Records.{left, after, Value, okType, okItem, okItems, readItem, readItems, readValue, sizeOf, fieldEnd, fieldsEnd, readValues, node, Trees, readRecords, gather, Good, checkRecords}
-use Rattle.definitions.specs.ProgramSheet.{blockOf, functionOf, programOf, readProgram, refusal40}
+use Rattle.definitions.specs.Records.{left, after, FieldValue, okType, okItem, okItems, readItem, readItems, readValue, sizeOf, fieldEnd, fieldsEnd, readValues, node, Trees, readRecords, gather, Good, checkRecords}
+use Rattle.definitions.specs.ProgramSheet.{blockOf, irFunctionOf, programOf, readProgram, refusal40}
 use Rattle.definitions.proofs.Results.{by-test}
 use Rattle.definitions.specs.Fine.{Head, Fine, ends, goes}
 use Rattle.definitions.proofs.Sheets.Passed.{fine, read-end, read-step}
 use Rattle.definitions.proofs.Sheets.Lines.{OfRows, Given, by-lines, same-class, not-left}
 use Rattle.definitions.proofs.Sheets.Singles.{itemsFrom, after as afterAll, Valid, Starts, starts, Counted, counted-field}
 use Rattle.definitions.proofs.Sheets.Steps.{Step, here, past, many-step, One, this, one-step, done-ends, low}
-use Rattle.program_nodes.specs.Offsets.{headWidth, functionIdAt, functionNameAt, returnTypeAt, paramCountAt, paramsAt}
+use Rattle.program_nodes.specs.Offsets.{headWidth, functionIdAt, functionNameAt, returnTypeAt, paramCountAt, firstParamAt}
 use Rattle.program_nodes.specs.Positions.{typeHere, kindHere, stopHere, BlocksFrom, blocksHere, paramsHere, localsAt, firstBlock, typesHere, functionsHere, functionHere, functionsOf, FunctionsFrom, ProgramHere, FunctionStarts, FunctionHere}
 use Rattle.program_nodes.specs.declared.Function.{Function}
 
@@ -30,22 +30,22 @@ types-count (suc n) s p = ap suc (types-count n s (p + sizeOf irType))
 -- A FUNCTION'S RECORD
 pub record FunctionStep (s : List ℕ) (at end stop : ℕ) : Type 0 where
   pub high : stop ≤ end
-  pub low : at + (paramsAt + 2) ≤ firstBlock s at
+  pub low : at + (firstParamAt + 2) ≤ firstBlock s at
   pub kind : kindHere s at ≡ 51
   pub blocks : BlocksFrom s (firstBlock s at) stop
-  pub params : okItems valueAndType (le 2 s (at + paramCountAt)) s (at + paramsAt) ≡ true
+  pub params : okItems valueAndType (le 2 s (at + paramCountAt)) s (at + firstParamAt) ≡ true
   pub returns : okType (le 2 s (at + returnTypeAt)) (le 2 s (at + returnTypeAt + 2)) ≡ true
   pub next : Fine s stop end (many Class.irFunction (many Class.functionName done))
   pub read : functionsHere s at end ≡ functionHere s at (firstBlock s at) stop ∷ functionsHere s stop end
 
 module _ (s : List ℕ) (at end b stop : ℕ) where
-  record Row51 (k : ℕ) (vs : List Value) : Type 0 where
+  record Row51 (k : ℕ) (vs : List FieldValue) : Type 0 where
     kind : k ≡ 51
     body : b ≡ firstBlock s at
-    low : at + (paramsAt + 2) ≤ b
-    params : okItems valueAndType (le 2 s (at + paramCountAt)) s (at + paramsAt) ≡ true
+    low : at + (firstParamAt + 2) ≤ b
+    params : okItems valueAndType (le 2 s (at + paramCountAt)) s (at + firstParamAt) ≡ true
     returns : okType (le 2 s (at + returnTypeAt)) (le 2 s (at + returnTypeAt + 2)) ≡ true
-    is : (ts : Trees) → functionOf (node at k vs ts) ≡ record {
+    is : (ts : Trees) → irFunctionOf (node at k vs ts) ≡ record {
       id = le 2 s (at + functionIdAt);
       name = le 2 s (at + functionNameAt);
       params = paramsHere s at;
@@ -66,7 +66,7 @@ module _ (s : List ℕ) (at end b stop : ℕ) where
       let es : List Entry = upTo 65534 ∷ upTo 65534 ∷ irType ∷ [] in
       let S : Starts es fs s at b stop = starts es fs hd in
       let C : Counted valueAndType (counted irType ∷ []) s stop (at + paramCountAt) b = counted-field valueAndType (counted irType ∷ []) s stop (at + paramCountAt) (S .more) in
-      let e : at + paramCountAt + 2 ≡ at + paramsAt = omega arith in
+      let e : at + paramCountAt + 2 ≡ at + firstParamAt = omega arith in
       let f : at + paramCountAt + 2 + 6 * le 2 s (at + paramCountAt) ≡ localsAt s at = omega arith in
       let body : b ≡ firstBlock s at = S .body ∙ ap (λ (x : ℕ). x + 2 + 4 * le 2 s x) f in (
         refl,
@@ -76,7 +76,7 @@ module _ (s : List ℕ) (at end b stop : ℕ) where
           low = omega (arith, body);
           params = rw e at (C .valid);
           returns = S .valid .1 .1 .0;
-          is = λ ts. ap (λ (x : List Value). functionOf (node at 51 x ts)) (S .values) ∙ rw (f, e) refl;
+          is = λ ts. ap (λ (x : List FieldValue). irFunctionOf (node at 51 x ts)) (S .values) ∙ rw (f, e) refl;
         },
       ))
 
@@ -105,7 +105,7 @@ left-name {c} r e =
 -- the records of names: none of them is a function
 names-only : {s : List ℕ} {at end : ℕ} {q : Pattern} → Fine s at end q → q ≡ many Class.functionName done → functionsHere s at end ≡ []
 unfolding functionsHere
-names-only {s} {at} (ends z m) e = rw (← z) (ap (gather 51 51 functionOf) (read-end s at))
+names-only {s} {at} (ends z m) e = rw (← z) (ap (gather 51 51 irFunctionOf) (read-end s at))
 names-only {s} {at} {end} (goes {b = b} {stop = stop} {fs = fs} hd a kids rest) e =
     let w = left-name _ (rw e at a) in
     let k : kindHere s at ≡ 52 = name-kind (rw (w .0) at hd) in
@@ -131,8 +131,8 @@ function-step {s} {at} {end} (here {fs = fs} {q = q} {b = b} {stop = stop} hd ki
       returns = R .returns;
       next = more;
       read =
-          ap (gather 51 51 functionOf) (read-step hd kids more) ∙ rw (R .kind)
-          (ap (λ (x : IrFunction). x ∷ gather 51 51 functionOf (readRecords s stop end)) (subst (λ (k : ℕ). functionOf (node at k (readValues fs s stop (at + headWidth)) (readRecords s b stop)) ≡ functionHere s at b stop) (R .kind) (R .is (readRecords s b stop)) ∙ ap (λ (x : ℕ). functionHere s at x stop) (R .body)));
+          ap (gather 51 51 irFunctionOf) (read-step hd kids more) ∙ rw (R .kind)
+          (ap (λ (x : IrFunction). x ∷ gather 51 51 irFunctionOf (readRecords s stop end)) (subst (λ (k : ℕ). irFunctionOf (node at k (readValues fs s stop (at + headWidth)) (readRecords s b stop)) ≡ functionHere s at b stop) (R .kind) (R .is (readRecords s b stop)) ∙ ap (λ (x : ℕ). functionHere s at x stop) (R .body)));
     }))
 
 at-functions : {s : List ℕ} {at : ℕ} → FunctionsFrom s at → AtFunction s at (length s)
@@ -196,5 +196,5 @@ program-at s e = go (one-step Class.program done (fine _ s 0 (length s) _ e))
         let w : b ≡ 6 = subst (λ (x : List Field). b ≡ fieldsEnd x s stop (0 + headWidth)) (r .0) (hd .body-is) in
         record {
           records = rw (← z, ← w) (subst (λ (p : Pattern). Fine s b stop p) (r .1) kids);
-          functions = ap (λ (x : Trees). programOf x .functions) (read-step hd kids more) ∙ (ap (λ (x : ℕ). gather 51 51 functionOf (readRecords s x stop)) w ∙ ap (λ (x : ℕ). gather 51 51 functionOf (readRecords s 6 x)) z);
+          functions = ap (λ (x : Trees). programOf x .functions) (read-step hd kids more) ∙ (ap (λ (x : ℕ). gather 51 51 irFunctionOf (readRecords s x stop)) w ∙ ap (λ (x : ℕ). gather 51 51 irFunctionOf (readRecords s 6 x)) z);
         }

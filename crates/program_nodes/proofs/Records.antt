@@ -12,7 +12,7 @@ use Rattle.definitions.specs.Ir.{resultType}
 use Rattle.definitions.specs.InstrTable.{kindRow, kindOf}
 use Rattle.ir.specs.Kinds.{ruleNumber}
 use Rattle.definitions.specs.Grammar.{Class, Entry, upTo, optional, number, irType, Field, single, listed, Pattern, done, origin, rows}
-use Rattle.definitions.specs.Records.{pick, Value, okType, okItem, optFrom, readItem, readValue, sizeOf, readValues, optAt}
+use Rattle.definitions.specs.Records.{pick, FieldValue, okType, okItem, optFrom, readItem, readValue, sizeOf, readValues, optAt}
 use Rattle.definitions.specs.ProgramSheet.{instrOf, ownOf}
 use Rattle.definitions.specs.Fine.{Head}
 use Rattle.definitions.proofs.Sheets.Passed.{both-true}
@@ -22,7 +22,7 @@ use Rattle.program_nodes.specs.Offsets.{headWidth, fieldsAt}
 use Rattle.program_nodes.specs.Positions.{rawOpt, TypeAt, typeHere, idsHere, instrHere, sizeHere, hasType, typeOffset, byRule, ruleTest, InstrPlace, InstrTo}
 
 -- what is known of the instruction of kind k at q, whose own values are vs
-pub record InstrAt (s : List ℕ) (q stop k : ℕ) (vs : List Value) : Type 0 where
+pub record InstrAt (s : List ℕ) (q stop k : ℕ) (vs : List FieldValue) : Type 0 where
   pub low : 60 ≤ k
   pub high : k ≤ 81
   pub fits : q + sizeHere k ≤ stop
@@ -56,7 +56,7 @@ module _ (k : ℕ) (t : ruleTest k ≡ true) where
   unfolding ruleTest typed call wide
   type-fits e = leb-true _ _ (rw e at (both-true call wide (both-true typed (call && wide) t .1) .1))
 
-pub placed : {s : List ℕ} {q stop k : ℕ} {vs : List Value} → InstrAt s q stop k vs → stop ≤ length s → InstrPlace s q k
+pub placed : {s : List ℕ} {q stop k : ℕ} {vs : List FieldValue} → InstrAt s q stop k vs → stop ≤ length s → InstrPlace s q k
 placed {k = k} i l = record {
   low = i .low;
   high = i .high;

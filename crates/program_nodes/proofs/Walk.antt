@@ -11,7 +11,7 @@ use borrow.Author.Tests.{le-leb, lt-leb}
 use Rattle.definitions.specs.Fields.{le}
 use Rattle.definitions.specs.Ir.{Instruction}
 use Rattle.definitions.specs.Grammar.{Class, Entry, upTo, optional, Field, single, Pattern, done, perhaps, many, origin, rows}
-use Rattle.definitions.specs.Records.{pick, Value, optFrom, readItem, sizeOf, fieldsEnd, readValues, node, Trees, tnil, tcons, readRecords, gather}
+use Rattle.definitions.specs.Records.{pick, FieldValue, optFrom, readItem, sizeOf, fieldsEnd, readValues, node, Trees, tnil, tcons, readRecords, gather}
 use Rattle.definitions.specs.ProgramSheet.{ownOf, terminatorOf, instrNodeOf, termOf, firstOf, blockOf}
 use Rattle.definitions.specs.Fine.{Head, Fine}
 use Rattle.definitions.proofs.Sheets.Passed.{read-end, read-step}
@@ -23,7 +23,7 @@ use Rattle.program_nodes.specs.Positions.{kindHere, stopHere, instrHere,
 use Rattle.program_nodes.proofs.Records.{InstrAt, instr-at, placed}
 
 -- TERMINATORS, by their own values
-pub record TermAt (s : List ℕ) (q stop k : ℕ) (vs : List Value) : Type 0 where
+pub record TermAt (s : List ℕ) (q stop k : ℕ) (vs : List FieldValue) : Type 0 where
   pub low : 90 ≤ k
   pub high : k ≤ 93
   pub fits : q + termSize k ≤ stop
@@ -52,7 +52,7 @@ module _ (s : List ℕ) (q end b stop : ℕ) where
 
 -- A BLOCK'S RECORDS: what stands at q
 pub record InstrStep (s : List ℕ) (q end stop : ℕ) : Type 0 where
-  pub vs : List Value
+  pub vs : List FieldValue
   pub at : InstrAt s q stop (kindHere s q) (ownOf vs)
   pub high : stop ≤ end
   pub low : q + ownAt ≤ stop
@@ -61,7 +61,7 @@ pub record InstrStep (s : List ℕ) (q end stop : ℕ) : Type 0 where
   pub read : readRecords s q end ≡ tcons (node q (kindHere s q) vs ks) (readRecords s stop end)
 
 pub record TermStep (s : List ℕ) (q end : ℕ) : Type 0 where
-  pub vs : List Value
+  pub vs : List FieldValue
   pub at : TermAt s q end (kindHere s q) (ownOf vs)
   pub low : q + headWidth ≤ end
   pub ks : Trees
@@ -162,7 +162,7 @@ pub record BlockStep (s : List ℕ) (b end stop : ℕ) : Type 0 where
   pub low : b + recordsAt ≤ stop
   pub records : BlockFrom s (b + recordsAt) stop
   pub next : BlocksFrom s stop end
-  pub vs : List Value
+  pub vs : List FieldValue
   pub block : blockOf (node b (kindHere s b) vs (readRecords s (b + recordsAt) stop)) .id ≡ le 2 s (b + blockIdAt)
   pub kind : kindHere s b ≡ 53
   pub read : readRecords s b end ≡ tcons (node b (kindHere s b) vs (readRecords s (b + recordsAt) stop)) (readRecords s stop end)
@@ -183,7 +183,7 @@ module _ (s : List ℕ) (q end b stop : ℕ) where
       by-lines B Class.basicBlock rows
       (λ hd.
       let S : Starts (upTo 65534 ∷ []) [] s q b stop = starts (upTo 65534 ∷ []) [] hd in
-      (refl, refl, S .body, λ x ts. ap (λ (v : List Value). blockOf (node x 53 v ts) .id) (S .values)))
+      (refl, refl, S .body, λ x ts. ap (λ (v : List FieldValue). blockOf (node x 53 v ts) .id) (S .values)))
 
 block-step : {s : List ℕ} {b end : ℕ} → Step s b end Class.basicBlock (many Class.basicBlock done) done → AtBlock s b end
 block-step (past f) = no-block (done-ends f)

@@ -6,7 +6,7 @@ use lib.Dec.{leb, eqb}
 use Rattle.definitions.specs.Ir.{IrType, Instruction, resultType}
 use Rattle.definitions.specs.Records.{pick, Tree, node, Trees, tnil, tcons, readRecords}
 use Rattle.definitions.specs.ProgramSheet.{instrNodeOf}
-use Rattle.program_nodes.specs.Offsets.{paramsAt}
+use Rattle.program_nodes.specs.Offsets.{firstParamAt}
 use Rattle.program_nodes.specs.Positions.{paramsHere}
 use Rattle.program_nodes.specs.declared.Function.{Function}
 
@@ -39,7 +39,7 @@ blocksDefinitions (tcons (node b k vs ks) ts) = blockDefinitions ks ++ blocksDef
 
 -- those of a function: its parameters', then its instructions'
 abbrev pub paramsOf : List ℕ → Function → List Definition
-paramsOf s f = paramDefinitions (f .at + paramsAt) (paramsHere s (f .at))
+paramsOf s f = paramDefinitions (f .at + firstParamAt) (paramsHere s (f .at))
 
 unfoldable pub definitionsOf : List ℕ → Function → List Definition
 definitionsOf s f = paramsOf s f ++ blocksDefinitions (readRecords s (f .first) (f .stop))

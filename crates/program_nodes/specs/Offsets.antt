@@ -23,8 +23,8 @@ returnTypeAt = functionNameAt + 2
 abbrev pub paramCountAt : ℕ
 paramCountAt = returnTypeAt + 4
 
-abbrev pub paramsAt : ℕ
-paramsAt = paramCountAt + 2
+abbrev pub firstParamAt : ℕ
+firstParamAt = paramCountAt + 2
 
 -- a block: its id, then its records
 abbrev pub blockIdAt : ℕ

@@ -13,10 +13,10 @@ use Rattle.definitions.specs.Grammar.{Class, upTo, irType, valueAndType, done, 
 use Rattle.definitions.specs.Records.{pick, Item, okType, okItems, numberOf, typeOf, typeFrom, optFrom, readItems, readRecords, gather}
 use Rattle.definitions.specs.InstrTable.{kindOf}
 use Rattle.definitions.specs.Verify.{blockIds, functionIds}
-use Rattle.definitions.specs.ProgramSheet.{binaryOf, instrNodeOf, blockOf, termOf, firstOf, functionOf}
+use Rattle.definitions.specs.ProgramSheet.{binaryOf, instrNodeOf, blockOf, termOf, firstOf, irFunctionOf}
 use Rattle.definitions.specs.Fine.{Fine}
 use Rattle.ir.specs.Kinds.{ruleNumber}
-use Rattle.program_nodes.specs.Offsets.{kindAt, functionIdAt, functionNameAt, returnTypeAt, paramCountAt, paramsAt, blockIdAt, recordsAt, fieldsAt, ownAt, leftAt, rightAt, callArgsAt, eventArgsAt}
+use Rattle.program_nodes.specs.Offsets.{kindAt, functionIdAt, functionNameAt, returnTypeAt, paramCountAt, firstParamAt, blockIdAt, recordsAt, fieldsAt, ownAt, leftAt, rightAt, callArgsAt, eventArgsAt}
 use Rattle.program_nodes.specs.declared.Function.{Function}
 
 -- TYPES as one number of four bytes; 65,535 stands for none
@@ -154,10 +154,10 @@ BlockEnds s b stop end = (b ≤ end) × (b < stop → end ≡ stopHere s b)
 
 -- FUNCTIONS: the parameters of the one at `at`, the place of its count of locals, and where its blocks start
 unfoldable pub paramsHere : List ℕ → ℕ → List (ℕ × IrType)
-paramsHere s at = map (λ (x : Item). (numberOf x, typeOf x)) (readItems valueAndType (le 2 s (at + paramCountAt)) s (at + paramsAt))
+paramsHere s at = map (λ (x : Item). (numberOf x, typeOf x)) (readItems valueAndType (le 2 s (at + paramCountAt)) s (at + firstParamAt))
 
 abbrev pub localsAt : List ℕ → ℕ → ℕ
-localsAt s at = at + paramsAt + 6 * le 2 s (at + paramCountAt)
+localsAt s at = at + firstParamAt + 6 * le 2 s (at + paramCountAt)
 
 abbrev pub firstBlock : List ℕ → ℕ → ℕ
 firstBlock s at = localsAt s at + 2 + 4 * le 2 s (localsAt s at)
@@ -168,7 +168,7 @@ typesHere n s p = map typeOf (readItems irType n s p)
 
 -- the functions from p on, and all of a program
 unfoldable pub functionsHere : List ℕ → ℕ → ℕ → List IrFunction
-functionsHere s p end = gather 51 51 functionOf (readRecords s p end)
+functionsHere s p end = gather 51 51 irFunctionOf (readRecords s p end)
 
 abbrev pub functionsOf : List ℕ → List IrFunction
 functionsOf s = functionsHere s 6 (length s)
@@ -212,7 +212,7 @@ pub record FunctionHere (s : List ℕ) (f : Function) : Type 0 where
   pub low : f .first ≤ f .stop
   pub inside : f .stop ≤ length s
   pub blocks : BlocksFrom s (f .first) (f .stop)
-  pub params : okItems valueAndType (le 2 s (f .at + paramCountAt)) s (f .at + paramsAt) ≡ true
+  pub params : okItems valueAndType (le 2 s (f .at + paramCountAt)) s (f .at + firstParamAt) ≡ true
   pub returns : TypeAt s (f .at + returnTypeAt)
   pub next : FunctionsFrom s (f .stop)
   pub read : functionsHere s (f .at) (length s) ≡ irOf s f ∷ functionsHere s (f .stop) (length s)

@@ -6,7 +6,7 @@
 ghost use mathlib.Core.Path.{_≡_};
 ghost use Prim.Native.Nat.{_≤_};
 ghost use lib.ListN.{length, take};
-ghost use Rattle.console.specs.Input.{Within};
+ghost use Rattle.console.specs.Input.{InputFits};
 use console::Input;
 use format::MOST;
 use libc::STDOUT_FILENO;
@@ -15,7 +15,7 @@ use lines::LOWERED_LINE;
 
 // Reads n bytes to the start of `sheet`, fewer if the input ends. Where `sheet` is too short, it reads nothing.
 fn read_sheet(n: usize, sheet: &mut [u8]) -> Input
-    ensures { λ r. ⌜ Within r (now (sheet .exit)) ⌝ }
+    ensures { λ r. ⌜ InputFits r (now (sheet .exit)) ⌝ }
 {
     if sheet.len() < n {
         return Input::Failed;

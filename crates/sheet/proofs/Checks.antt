@@ -9,7 +9,7 @@ use Rattle.definitions.specs.Fields.{le}
 use Rattle.definitions.specs.Grammar.{Pattern}
 use Rattle.definitions.specs.Records.{pick, Form, Good, Bad, andThen, mayEnd, Next, nothing, starts, startIf, startAt, pastAll, checkRest, recordsFrom, checkRecords}
 use Rattle.definitions.proofs.Sheets.Passed.{Ends, all-past, bound-enough}
-use Rattle.sheet.specs.Codes.{placeOf, fieldsIn, patternOf, coded, Leaves, RowIs, kindAt, classIn, fixedIn, childrenIn}
+use Rattle.sheet.specs.Codes.{placeOrNone, fieldsIn, patternOf, coded, Leaves, RowIs, fittingKind, classIn, fixedIn, childrenIn}
 use Rattle.sheet.specs.Forms.{faultOf}
 use Rattle.sheet.proofs.Heads.{Begun, not-allowed, begun}
 
@@ -59,7 +59,7 @@ module _ {s : List ℕ} {at end q place left : ℕ} (g : Going s at end q place 
     over-bad i y = i ∙ sym (over y)
 
   -- a record is to come: k is its kind, x its row, and n what it leaves of the pattern
-  module _ (h : place < end) {k x n : ℕ} (ek : k ≡ kindAt s place end) (r : RowIs k x) (v : Leaves left (classIn x) n) where
+  module _ (h : place < end) {k x n : ℕ} (ek : k ≡ fittingKind s place end) (r : RowIs k x) (v : Leaves left (classIn x) n) where
     pub not-there : {r : Form} → r ≡ Bad place → n ≡ 16 → r ≡ checkRecords s at end (patternOf q)
     not-there i e = rw (i, g .same) (step-no s place end (patternOf left) h (not-allowed s place end left ek r v e))
 
@@ -77,16 +77,16 @@ pub record Entered (s : List ℕ) (at end q place x n l b : ℕ) : Type 0 where
   pub is : checkRecords s at end (patternOf q) ≡ andThen (checkRecords s b (place + l) (patternOf (childrenIn x))) (checkRecords s (place + l) end (patternOf n))
 
 module _ {s : List ℕ} {at end q place left x n l : ℕ} (g : Going s at end q place left) (h : place < end) (d : Begun s place end left x n) (el : l ≡ le 4 s place) (b : ℕ)
-    (eb : placeOf b ≡ pastAll (fieldsIn x) s (place + l) (place + 6)) where
-  starting : startAt s place end (patternOf left) ≡ startIf (placeOf b) (place + l) (patternOf (childrenIn x)) (Next.left (patternOf n))
+    (eb : placeOrNone b ≡ pastAll (fieldsIn x) s (place + l) (place + 6)) where
+  starting : startAt s place end (patternOf left) ≡ startIf (placeOrNone b) (place + l) (patternOf (childrenIn x)) (Next.left (patternOf n))
   starting = rw (eb, el) (d .is)
 
   pub not-valid : {r : Form} → r ≡ Bad place → b ≡ 0 → r ≡ checkRecords s at end (patternOf q)
-  unfolding startIf placeOf
+  unfolding startIf placeOrNone
   not-valid i z = rw (i, g .same) (step-no s place end (patternOf left) h (rw (starting, z)))
 
   pub enters : (b ≡ 0 → ⊥) → Entered s at end q place x n l b
-  unfolding startIf placeOf
+  unfolding startIf placeOrNone
   enters z =
       let m : place + l ≤ end = rw el (d .most) in
       let f : Ends (fieldsIn x) s (place + l) (place + 6) b = all-past (fieldsIn x) s (place + l) (place + 6) b (rw (ne-eqb b 0 z) at (sym eb)) (rw el (d .least)) in

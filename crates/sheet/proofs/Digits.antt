@@ -10,7 +10,7 @@ use borrow.Author.Tests.{ne-eqb}
 use Rattle.definitions.specs.Grammar.{Field}
 use Rattle.definitions.specs.Records.{pick, past, pastAll}
 use Rattle.definitions.proofs.Sheets.Passed.{one-past, field-within, past-on}
-use Rattle.sheet.specs.Codes.{placeOf, fieldOf, fieldsFrom, fieldsOf}
+use Rattle.sheet.specs.Codes.{placeOrNone, fieldOf, fieldsFrom, fieldsOf}
 
 -- the bound on the digits does not matter, if the code has no more
 enough : (n x : ℕ) → x < 16 ^ n → fieldsFrom (suc n) x ≡ fieldsFrom n x
@@ -32,20 +32,20 @@ pub record Passing (s : List ℕ) (at stop code place left : ℕ) : Type 0 where
   pub same : pastAll (fieldsOf code) s stop at ≡ pastAll (fieldsOf left) s stop place
 
 module _ {s : List ℕ} {at stop code place left : ℕ} (p : Passing s at stop code place left) (a : 0 < at) where
-  pub all-passed : left ≡ 0 → placeOf place ≡ pastAll (fieldsOf code) s stop at
-  unfolding fieldsFrom pastAll placeOf
+  pub all-passed : left ≡ 0 → placeOrNone place ≡ pastAll (fieldsOf code) s stop at
+  unfolding fieldsFrom pastAll placeOrNone
   all-passed z = let l : at ≤ place = p .low in rw (p .same, z, ne-eqb place 0 (λ y. omega arith))
 
-  module _ (z : left ≡ 0 → ⊥) (x : ℕ) (e : placeOf x ≡ past (fieldOf (left % 16)) s stop place) where
+  module _ (z : left ≡ 0 → ⊥) (x : ℕ) (e : placeOrNone x ≡ past (fieldOf (left % 16)) s stop place) where
     one-more : pastAll (fieldsOf code) s stop at ≡ pastAll (fieldOf (left % 16) ∷ fieldsOf (left / 16)) s stop place
     one-more = p .same ∙ ap (λ (fs : List Field). pastAll fs s stop place) (next-digit left (p .small) z)
 
-    pub not-passed : x ≡ 0 → placeOf 0 ≡ pastAll (fieldsOf code) s stop at
-    unfolding placeOf pastAll
+    pub not-passed : x ≡ 0 → placeOrNone 0 ≡ pastAll (fieldsOf code) s stop at
+    unfolding placeOrNone pastAll
     not-passed y = let w : past (fieldOf (left % 16)) s stop place ≡ none = rw y at (sym e) in rw (one-more, w, pastAll)
 
     pub passed : (x ≡ 0 → ⊥) → Passing s at stop code x (left / 16)
-    unfolding placeOf
+    unfolding placeOrNone
     passed y =
         let f = one-past (fieldOf (left % 16)) s stop place x (rw (ne-eqb x 0 y) at (sym e)) in
         let w = field-within (fieldOf (left % 16)) s stop place (f .0) (p .high) in

@@ -12,7 +12,7 @@ use Rattle.definitions.specs.Fields.{le}
 use Rattle.definitions.specs.Grammar.{Entry, upTo, number, irType, valueAndType, nameAndType, Field, single, counted, listed}
 use Rattle.definitions.specs.Records.{pick, sizeOf, okType, okItem, okItems, fieldEnd, okField, past}
 use Rattle.definitions.proofs.Results.{by-test}
-use Rattle.sheet.specs.Codes.{placeOf, fields, fieldIn, fieldOf, itemForm}
+use Rattle.sheet.specs.Codes.{placeOrNone, fields, fieldIn, fieldOf, itemForm}
 use Rattle.sheet.proofs.Arms.{Others, passed-over}
 
 -- a type
@@ -126,28 +126,28 @@ module _ {e : Entry} {s : List ℕ} {at count place left : ℕ} (l : Left e s at
       onward y f = record { places = rw f (omega (arith, times-more (sizeOf e) left h, l .places)); same = rw (f, l .same, items-more e left s place h, ← o, y) }
 
 -- PLACES: a field that is not valid, and one that is
-pub placed : (x : ℕ) → 0 < x → placeOf x ≡ some x
-unfolding placeOf
+pub placed : (x : ℕ) → 0 < x → placeOrNone x ≡ some x
+unfolding placeOrNone
 placed x h = rw (ne-eqb x 0 (λ z. omega arith))
 
-bad-place : (f : Field) (s : List ℕ) (stop at : ℕ) → okField f s stop at ≡ false → placeOf 0 ≡ past f s stop at
-unfolding past placeOf
+bad-place : (f : Field) (s : List ℕ) (stop at : ℕ) → okField f s stop at ≡ false → placeOrNone 0 ≡ past f s stop at
+unfolding past placeOrNone
 bad-place f s stop at o = rw o
 
-good-place : (f : Field) (s : List ℕ) (stop at : ℕ) → okField f s stop at ≡ true → 0 < fieldEnd f s stop at → placeOf (fieldEnd f s stop at) ≡ past f s stop at
+good-place : (f : Field) (s : List ℕ) (stop at : ℕ) → okField f s stop at ≡ true → 0 < fieldEnd f s stop at → placeOrNone (fieldEnd f s stop at) ≡ past f s stop at
 unfolding past
 good-place f s stop at o h = rw o (placed (fieldEnd f s stop at) h)
 
 module _ (e : Entry) (s : List ℕ) (at stop : ℕ) where
-  pub single-short : stop - at < sizeOf e → placeOf 0 ≡ past (single e) s stop at
+  pub single-short : stop - at < sizeOf e → placeOrNone 0 ≡ past (single e) s stop at
   unfolding okField
   single-short h = bad-place (single e) s stop at (rw (lt-leb (sizeOf e) (stop - at) h))
 
-  pub single-good : 0 < at → sizeOf e ≤ stop - at → okItem e s at ≡ true → placeOf (at + sizeOf e) ≡ past (single e) s stop at
+  pub single-good : 0 < at → sizeOf e ≤ stop - at → okItem e s at ≡ true → placeOrNone (at + sizeOf e) ≡ past (single e) s stop at
   unfolding okField fieldEnd
   single-good a h o = good-place (single e) s stop at (rw (le-leb (sizeOf e) (stop - at) h, o)) (omega arith)
 
-  pub single-bad : sizeOf e ≤ stop - at → okItem e s at ≡ false → placeOf 0 ≡ past (single e) s stop at
+  pub single-bad : sizeOf e ≤ stop - at → okItem e s at ≡ false → placeOrNone 0 ≡ past (single e) s stop at
   unfolding okField
   single-bad h o = bad-place (single e) s stop at (rw (le-leb (sizeOf e) (stop - at) h, o))
 
@@ -155,7 +155,7 @@ module _ (e : Entry) (s : List ℕ) (at stop : ℕ) where
   unfolding past okField fieldEnd
   single-free k p = by-test (leb (sizeOf e) (stop - at)) (λ q. rw (q, k) (rw q at p)) (λ q. rw q (rw q at p))
 
-  pub count-short : stop - at < 2 → placeOf 0 ≡ past (counted e) s stop at
+  pub count-short : stop - at < 2 → placeOrNone 0 ≡ past (counted e) s stop at
   unfolding okField
   count-short h = bad-place (counted e) s stop at (rw (lt-leb 2 (stop - at) h))
 
@@ -164,17 +164,17 @@ module _ (e : Entry) (s : List ℕ) (at stop : ℕ) where
     unfolding okField
     counting = rw (le-leb 2 (stop - at) r, ← ex, ← ez)
 
-    pub counted-short : stop - (at + 2) < z * x → placeOf 0 ≡ past (counted e) s stop at
+    pub counted-short : stop - (at + 2) < z * x → placeOrNone 0 ≡ past (counted e) s stop at
     counted-short h = bad-place (counted e) s stop at (rw (counting, lt-leb (z * x) (stop - (at + 2)) h))
 
     pub counted-fits : z * x ≤ stop - (at + 2) → {n : ℕ} → stop ≤ n → at + 2 + sizeOf e * x ≤ n
     counted-fits h k = rw (← ez) (omega arith)
 
-    pub counted-good : z * x ≤ stop - (at + 2) → {b : Bool} → b ≡ okItems e x s (at + 2) → b ≡ true → placeOf (at + 2 + z * x) ≡ past (counted e) s stop at
+    pub counted-good : z * x ≤ stop - (at + 2) → {b : Bool} → b ≡ okItems e x s (at + 2) → b ≡ true → placeOrNone (at + 2 + z * x) ≡ past (counted e) s stop at
     unfolding fieldEnd
     counted-good h o y = rw (ez, ex) (good-place (counted e) s stop at (rw (counting, le-leb (z * x) (stop - (at + 2)) h, ← o, y)) (omega arith))
 
-    pub counted-bad : z * x ≤ stop - (at + 2) → {b : Bool} → b ≡ okItems e x s (at + 2) → b ≡ false → placeOf 0 ≡ past (counted e) s stop at
+    pub counted-bad : z * x ≤ stop - (at + 2) → {b : Bool} → b ≡ okItems e x s (at + 2) → b ≡ false → placeOrNone 0 ≡ past (counted e) s stop at
     counted-bad h o y = bad-place (counted e) s stop at (rw (counting, le-leb (z * x) (stop - (at + 2)) h, ← o, y))
 
   module _ {z : ℕ} (ez : z ≡ sizeOf e) where
@@ -182,17 +182,17 @@ module _ (e : Entry) (s : List ℕ) (at stop : ℕ) where
     unfolding okField
     listing = rw (← ez)
 
-    pub listed-odd : ((stop - at) % z ≡ 0 → ⊥) → placeOf 0 ≡ past (listed e) s stop at
+    pub listed-odd : ((stop - at) % z ≡ 0 → ⊥) → placeOrNone 0 ≡ past (listed e) s stop at
     listed-odd m = bad-place (listed e) s stop at (rw (listing, ne-eqb ((stop - at) % z) 0 m))
 
     pub listed-fits : at ≤ stop → {n : ℕ} → stop ≤ n → at + sizeOf e * ((stop - at) / z) ≤ n
     listed-fits h k = rw (← ez) (omega (arith, mul-div-le (stop - at) z))
 
-    pub listed-good : 0 < at → at ≤ stop → (stop - at) % z ≡ 0 → {b : Bool} → b ≡ okItems e ((stop - at) / z) s at → b ≡ true → placeOf stop ≡ past (listed e) s stop at
+    pub listed-good : 0 < at → at ≤ stop → (stop - at) % z ≡ 0 → {b : Bool} → b ≡ okItems e ((stop - at) / z) s at → b ≡ true → placeOrNone stop ≡ past (listed e) s stop at
     unfolding fieldEnd
     listed-good a l m o y = good-place (listed e) s stop at (rw (listing, eq-eqb ((stop - at) % z) 0 m, ← o, y)) (omega arith)
 
-    pub listed-bad : (stop - at) % z ≡ 0 → {b : Bool} → b ≡ okItems e ((stop - at) / z) s at → b ≡ false → placeOf 0 ≡ past (listed e) s stop at
+    pub listed-bad : (stop - at) % z ≡ 0 → {b : Bool} → b ≡ okItems e ((stop - at) / z) s at → b ≡ false → placeOrNone 0 ≡ past (listed e) s stop at
     listed-bad m o y = bad-place (listed e) s stop at (rw (listing, eq-eqb ((stop - at) % z) 0 m, ← o, y))
 
 -- a field by its digit
@@ -203,7 +203,7 @@ abbrev pub digit : ℕ × Field → ℕ
 digit f = f .0
 
 -- no field takes no byte
-nothing-past : (s : List ℕ) (stop at : ℕ) → 0 < at → placeOf at ≡ past (single (number 0)) s stop at
+nothing-past : (s : List ℕ) (stop at : ℕ) → 0 < at → placeOrNone at ≡ past (single (number 0)) s stop at
 unfolding sizeOf okItem
 nothing-past s stop at a = let z : at + 0 ≡ at = omega arith in rw z at (single-good (number 0) s at stop a (omega arith) refl)
 
@@ -211,6 +211,6 @@ skips : (d : ℕ) (f : ℕ × Field) (fs : List (ℕ × Field)) → (d ≡ digit
 unfolding fieldIn
 skips d f fs z = rw (ne-eqb d (f .0) z)
 
-pub no-digit : (s : List ℕ) (stop at d : ℕ) → 0 < at → Others digit d (Unit {0}) fields → placeOf at ≡ past (fieldOf d) s stop at
+pub no-digit : (s : List ℕ) (stop at d : ℕ) → 0 < at → Others digit d (Unit {0}) fields → placeOrNone at ≡ past (fieldOf d) s stop at
 unfolding fieldIn
 no-digit s stop at d a o = rw (passed-over digit d (fieldIn d) (skips d) (Unit {0}) fields o) (nothing-past s stop at a)

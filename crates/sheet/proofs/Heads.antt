@@ -10,26 +10,26 @@ use Rattle.definitions.specs.Fields.{le}
 use Rattle.definitions.specs.Grammar.{Pattern, rows}
 use Rattle.definitions.specs.Records.{pick, noRow, row, rowIn, refused, left, after, nothing, startIf, startRow, startAt, pastAll}
 use Rattle.definitions.proofs.Sheets.Passed.{both-true}
-use Rattle.sheet.specs.Codes.{fieldsIn, classOf, patternOf, classCoded, coded, nextOf, afterClass, Leaves, bodyCoded, rowOf, rowCoded, RowIs, kindAt, classIn, fixedIn, childrenIn}
+use Rattle.sheet.specs.Codes.{fieldsIn, classOf, patternOf, classCoded, coded, nextOf, afterClass, Leaves, bodyCoded, rowOf, rowCoded, RowIs, fittingKind, classIn, fixedIn, childrenIn}
 use Rattle.sheet.proofs.Patterns.{class-range}
 
--- KINDS: the code's ways through `kindAt`
+-- KINDS: the code's ways through `fittingKind`
 module _ (s : List ℕ) (at end : ℕ) where
-  pub no-room : end - at < 6 → 0 ≡ kindAt s at end
-  unfolding kindAt
+  pub no-room : end - at < 6 → 0 ≡ fittingKind s at end
+  unfolding fittingKind
   no-room h = rw (lt-leb 6 (end - at) h)
 
   module _ (r : 6 ≤ end - at) {l : ℕ} (e : l ≡ le 4 s at) where
-    pub too-short : l < 6 → 0 ≡ kindAt s at end
-    unfolding kindAt
+    pub too-short : l < 6 → 0 ≡ fittingKind s at end
+    unfolding fittingKind
     too-short h = rw (le-leb 6 (end - at) r, ← e, lt-leb 6 l h)
 
-    pub too-long : 6 ≤ l → end - at < l → 0 ≡ kindAt s at end
-    unfolding kindAt
+    pub too-long : 6 ≤ l → end - at < l → 0 ≡ fittingKind s at end
+    unfolding fittingKind
     too-long g h = rw (le-leb 6 (end - at) r, ← e, le-leb 6 l g, lt-leb l (end - at) h)
 
-    pub whole : 6 ≤ l → l ≤ end - at → {k : ℕ} → k ≡ le 2 s (at + 4) → k ≡ kindAt s at end
-    unfolding kindAt
+    pub whole : 6 ≤ l → l ≤ end - at → {k : ℕ} → k ≡ le 2 s (at + 4) → k ≡ fittingKind s at end
+    unfolding fittingKind
     whole g h f = rw (le-leb 6 (end - at) r, ← e, le-leb 6 l g, le-leb l (end - at) h) f
 
   -- a kind that is not 0: the record's length fits
@@ -37,8 +37,8 @@ module _ (s : List ℕ) (at end : ℕ) where
     least : 6 ≤ le 4 s at
     most : le 4 s at ≤ end - at
 
-  fitting : (kindAt s at end ≡ 0 → ⊥) → Fitting
-  unfolding kindAt
+  fitting : (fittingKind s at end ≡ 0 → ⊥) → Fitting
+  unfolding fittingKind
   fitting z = go (leb 6 (end - at)) (leb 6 (le 4 s at)) (leb (le 4 s at) (end - at)) refl refl z
     where
       go : (a b c : Bool) → leb 6 (le 4 s at) ≡ b → leb (le 4 s at) (end - at) ≡ c → (pick a (pick b (pick c (le 2 s (at + 4)) 0) 0) 0 ≡ 0 → ⊥) → Fitting
@@ -48,8 +48,8 @@ module _ (s : List ℕ) (at end : ℕ) where
       go false b c p q y = absurd (y refl)
 
   -- the start, by the row of the kind
-  by-kind : (q : Pattern) → startAt s at end q ≡ startRow s at (at + le 4 s at) q (rowIn (kindAt s at end) rows)
-  unfolding startAt kindAt startRow rowIn rows
+  by-kind : (q : Pattern) → startAt s at end q ≡ startRow s at (at + le 4 s at) q (rowIn (fittingKind s at end) rows)
+  unfolding startAt fittingKind startRow rowIn rows
   by-kind q = go (leb 6 (end - at)) (leb 6 (le 4 s at)) (leb (le 4 s at) (end - at))
     where
       go : (a b c : Bool) → pick a (pick b (pick c (startRow s at (at + le 4 s at) q (rowIn (le 2 s (at + 4)) rows)) nothing) nothing) nothing
@@ -88,7 +88,7 @@ pub record Begun (s : List ℕ) (at end q x n : ℕ) : Type 0 where
   pub is : startAt s at end (patternOf q)
       ≡ startIf (pastAll (fieldsIn x) s (at + le 4 s at) (at + 6)) (at + le 4 s at) (patternOf (childrenIn x)) (left (patternOf n))
 
-module _ (s : List ℕ) (at end q : ℕ) {k x n : ℕ} (ek : k ≡ kindAt s at end) (r : RowIs k x) (v : Leaves q (classIn x) n) where
+module _ (s : List ℕ) (at end q : ℕ) {k x n : ℕ} (ek : k ≡ fittingKind s at end) (r : RowIs k x) (v : Leaves q (classIn x) n) where
   by-row : startAt s at end (patternOf q) ≡ startRow s at (at + le 4 s at) (patternOf q) (rowOf x)
   by-row = by-kind s at end (patternOf q) ∙ ap (startRow s at (at + le 4 s at) (patternOf q)) (ap (λ (i : ℕ). rowIn i rows) (sym ek) ∙ sym (r .is))
 
@@ -122,7 +122,7 @@ module _ (s : List ℕ) (at end q : ℕ) {k x n : ℕ} (ek : k ≡ kindAt s at e
     unfolding afterClass
     there z = let e : left (patternOf n) ≡ refused = sym allowed ∙ v .is ∙ rw z in let y : _≡_ {A = ℕ} 0 1 = cc in omega arith
 
-    kind-there : kindAt s at end ≡ 0 → ⊥
+    kind-there : fittingKind s at end ≡ 0 → ⊥
     unfolding rowOf rowIn rows
     kind-there z =
         let e : row (classOf (classIn x)) (fieldsIn x) (patternOf (childrenIn x)) ≡ noRow = rw (ne-eqb x 0 there, ek, z) at (r .is) in

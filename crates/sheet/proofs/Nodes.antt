@@ -7,15 +7,15 @@ use Rattle.definitions.specs.Grammar.{Class, Field, Pattern, rows}
 use Rattle.definitions.specs.Records.{rowIn, rowFields, fieldsEnd, readValues}
 use Rattle.definitions.specs.Fine.{Head, Fine, ends, goes}
 use Rattle.definitions.proofs.Sheets.Passed.{read-step}
-use Rattle.sheet.specs.Passed.{Passed, Node, recordKind, stopOf, bodyOf, valuesOf, childrenOf}
+use Rattle.sheet.specs.Passed.{Passed, Node, recordKind, stopOf, bodyOf, valuesAt, childrenOf}
 
 unfoldable pub node-of : {c : Class} {fs : List Field} {p r : Pattern} {s : List ℕ} {at end b stop : ℕ} → Head s at end c fs p b stop → Fine s b stop p → Fine s stop end r → Node s at end
-unfolding bodyOf valuesOf rowFields
+unfolding bodyOf valuesAt rowFields
 node-of {c} {fs} {p} {r} {s} {at} {end} {b} {stop} hd kids rest =
     let f : rowFields (rowIn (recordKind s at) rows) ≡ fs = ap rowFields (hd .is) in
     let e : stop ≡ stopOf s at = hd .stop-is in
     let g : b ≡ bodyOf s at = rw (f, ← e) (hd .body-is) in
-    let v : readValues fs s stop (at + 6) ≡ valuesOf s at = rw (f, ← e) in
+    let v : readValues fs s stop (at + 6) ≡ valuesAt s at = rw (f, ← e) in
     record {
       class = c;
       fields = fs;
@@ -52,6 +52,6 @@ module _ {s : List ℕ} {at end : ℕ} (n : Node s at end) where
   pub children-of : {j : ℕ} → recordKind s at ≡ j → bodyOf s at ≡ fieldsEnd (rowFields (rowIn j rows)) s (stopOf s at) (at + 6)
   children-of e = head-of e .body-is
 
-  pub values-of : {j : ℕ} → recordKind s at ≡ j → valuesOf s at ≡ readValues (rowFields (rowIn j rows)) s (stopOf s at) (at + 6)
-  unfolding valuesOf
+  pub values-of : {j : ℕ} → recordKind s at ≡ j → valuesAt s at ≡ readValues (rowFields (rowIn j rows)) s (stopOf s at) (at + 6)
+  unfolding valuesAt
   values-of e = ap (λ (i : ℕ). readValues (rowFields (rowIn i rows)) s (stopOf s at) (at + 6)) e

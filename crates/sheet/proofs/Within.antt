@@ -16,7 +16,7 @@ use Rattle.definitions.proofs.Contracts.Limits.{measured}
 use Rattle.definitions.proofs.Sheets.Passed.{read-end}
 use Rattle.sheet.specs.Forms.{limitsOf}
 use Rattle.sheet.specs.Limits.{tooMany, tooWide}
-use Rattle.sheet.specs.Passed.{Node, Passed, Standing, recordKind, stopOf, bodyOf, valuesOf, childrenOf}
+use Rattle.sheet.specs.Passed.{Node, Passed, Standing, recordKind, stopOf, bodyOf, valuesAt, childrenOf}
 use Rattle.sheet.specs.declared.LimitCheck as declared
 use Rattle.sheet.specs.declared.LimitCheck.the-variants as answer
 use Rattle.sheet.proofs.Nodes.{opens, in-order}
@@ -86,10 +86,10 @@ module _ {s : List ℕ} {at end depth place a b c : ℕ} (g : Limiting s at end 
         (omega arith, n .head .high)
 
     opened : {k : ℕ} → k ≡ recordKind s place → limitTrees (readRecords s at end) depth noneBefore
-        ≡ andThen (pick (leb 41 depth || (tooMany k a b c || tooWide k (valuesOf s place) (countTrees (childrenOf s place)))) (Bad place) (limitTrees (childrenOf s place) (suc depth) noneBefore))
+        ≡ andThen (pick (leb 41 depth || (tooMany k a b c || tooWide k (valuesAt s place) (countTrees (childrenOf s place)))) (Bad place) (limitTrees (childrenOf s place) (suc depth) noneBefore))
         (limitTrees (readRecords s (stopOf s place) end) depth (counts (a + pick (eqb k 2) 1 0) (b + pick (eqb k 3) 1 0) (c + pick (eqb k 4) 1 0)))
     unfolding limitTree
-    opened e = rw (g .same, n .is, split (measured (recordKind s place) (valuesOf s place) (childrenOf s place) depth (counts a b c)), e)
+    opened e = rw (g .same, n .is, split (measured (recordKind s place) (valuesAt s place) (childrenOf s place) depth (counts a b c)), e)
 
     -- k is its kind: it is over, or it is not
     module _ {k : ℕ} (e : k ≡ recordKind s place) where
@@ -105,7 +105,7 @@ module _ {s : List ℕ} {at end depth place a b c : ℕ} (g : Limiting s at end 
         unfolding limitsOf andThen
         one-too-many q = rw (opened e, shallow, ← p, q)
 
-        module _ (q : x ≡ false) {y : Bool} (r : y ≡ tooWide k (valuesOf s place) (countTrees (childrenOf s place))) where
+        module _ (q : x ≡ false) {y : Bool} (r : y ≡ tooWide k (valuesAt s place) (countTrees (childrenOf s place))) where
           pub too-wide : y ≡ true → limitsOf (answer.Over place) ≡ limitTrees (readRecords s at end) depth noneBefore
           unfolding limitsOf andThen
           too-wide t = rw (opened e, shallow, ← p, q, ← r, t)

@@ -12,8 +12,8 @@ use Rattle.definitions.specs.Grammar.{Entry, upTo, optional, number, irType, va
 use Rattle.definitions.specs.Records.{pick, Row, noRow, row, rowIn, Next, refused, left, after}
 
 -- PLACES: the code gives the place after a field, or after all fields, and 0 where there is none. A field starts behind its record's head, so none ends at 0.
-unfoldable pub placeOf : ℕ → Option ℕ
-placeOf x = pick (eqb x 0) none (some x)
+unfoldable pub placeOrNone : ℕ → Option ℕ
+placeOrNone x = pick (eqb x 0) none (some x)
 
 -- FIELDS: a digit each, the first field lowest; the first number bounds the digits
 unfoldable pub fields : List (ℕ × Field)
@@ -128,5 +128,5 @@ pub record RowIs (k x : ℕ) : Type 0 where
   pub ok : rowCoded x ≡ true
 
 -- the kind of the record at a place, if its length fits what is left to `end`; else 0
-unfoldable pub kindAt : List ℕ → ℕ → ℕ → ℕ
-kindAt s at end = pick (leb 6 (end - at)) (pick (leb 6 (le 4 s at)) (pick (leb (le 4 s at) (end - at)) (le 2 s (at + 4)) 0) 0) 0
+unfoldable pub fittingKind : List ℕ → ℕ → ℕ → ℕ
+fittingKind s at end = pick (leb 6 (end - at)) (pick (leb 6 (le 4 s at)) (pick (leb (le 4 s at) (end - at)) (le 2 s (at + 4)) 0) 0) 0

@@ -6,7 +6,7 @@ use lib.ListN.{length}
 use Rattle.definitions.specs.Fields.{le}
 use Rattle.definitions.specs.ContractSheet.{refusal3, refusal4}
 use Rattle.definitions.specs.Grammar.{Class, Field, Pattern, rows}
-use Rattle.definitions.specs.Records.{Good, Value, Trees, node, tcons, rowIn, rowFields, fieldsEnd, readValues, readRecords}
+use Rattle.definitions.specs.Records.{Good, FieldValue, Trees, node, tcons, rowIn, rowFields, fieldsEnd, readValues, readRecords}
 use Rattle.definitions.specs.Fine.{Head, Fine}
 
 -- the records from `at` to `end` passed
@@ -24,8 +24,8 @@ stopOf s at = at + le 4 s at
 unfoldable pub bodyOf : List ℕ → ℕ → ℕ
 bodyOf s at = fieldsEnd (rowFields (rowIn (recordKind s at) rows)) s (stopOf s at) (at + 6)
 
-unfoldable pub valuesOf : List ℕ → ℕ → List Value
-valuesOf s at = readValues (rowFields (rowIn (recordKind s at) rows)) s (stopOf s at) (at + 6)
+unfoldable pub valuesAt : List ℕ → ℕ → List FieldValue
+valuesAt s at = readValues (rowFields (rowIn (recordKind s at) rows)) s (stopOf s at) (at + 6)
 
 abbrev pub childrenOf : List ℕ → ℕ → Trees
 childrenOf s at = readRecords s (bodyOf s at) (stopOf s at)
@@ -47,7 +47,7 @@ pub record Node (s : List ℕ) (at end : ℕ) : Type 0 where
   pub head : Head s at end class fields pattern (bodyOf s at) (stopOf s at)
   pub kids : Fine s (bodyOf s at) (stopOf s at) pattern
   pub rest : Passed s (stopOf s at) end
-  pub is : readRecords s at end ≡ tcons (node at (recordKind s at) (valuesOf s at) (childrenOf s at)) (readRecords s (stopOf s at) end)
+  pub is : readRecords s at end ≡ tcons (node at (recordKind s at) (valuesAt s at) (childrenOf s at)) (readRecords s (stopOf s at) end)
 
 -- a contract sheet of at most 32,768 bytes that passed 3 and 4
 pub record ContractPassed (s : List ℕ) : Type 0 where

@@ -7,7 +7,7 @@ ghost use lib.ListN.{length};
 ghost use Rattle.definitions.specs.Fields.{le};
 ghost use Rattle.definitions.specs.Grammar.{upTo, irType, single, counted, listed};
 ghost use Rattle.definitions.specs.Records.{pick, sizeOf, okType, okItem, okItems, past, pastAll};
-ghost use Rattle.sheet.specs.Codes.{placeOf, fieldOf, fieldsOf, itemForm, beforeOwn, withOrigin};
+ghost use Rattle.sheet.specs.Codes.{placeOrNone, fieldOf, fieldsOf, itemForm, beforeOwn, withOrigin};
 use crate::tables::DIGIT;
 use format::HIGHEST_ID;
 use format::ID;
@@ -98,7 +98,7 @@ fn items_valid(s: &[u8], at: usize, count: usize, form: usize) -> bool
 // The place after a u16 of at most `most`, in a record that stops at `stop`; 0 if it does not fit or is not valid.
 fn past_u16(s: &[u8], at: usize, stop: usize, most: usize) -> usize
     requires { ⌜ (0 < at) × ((at ≤ stop) × (stop ≤ length (now s))) ⌝ }
-    ensures { λ r. ⌜ placeOf r ≡ past (single (upTo most)) (now (s .entry)) stop at ⌝ }
+    ensures { λ r. ⌜ placeOrNone r ≡ past (single (upTo most)) (now (s .entry)) stop at ⌝ }
 {
     if stop - at < 2 {
         return 0;
@@ -109,7 +109,7 @@ fn past_u16(s: &[u8], at: usize, stop: usize, most: usize) -> usize
 // The same for a type.
 fn past_type(s: &[u8], at: usize, stop: usize) -> usize
     requires { ⌜ (0 < at) × ((at ≤ stop) × (stop ≤ length (now s))) ⌝ }
-    ensures { λ r. ⌜ placeOf r ≡ past (single irType) (now (s .entry)) stop at ⌝ }
+    ensures { λ r. ⌜ placeOrNone r ≡ past (single irType) (now (s .entry)) stop at ⌝ }
 {
     if stop - at < 4 {
         return 0;
@@ -120,7 +120,7 @@ fn past_type(s: &[u8], at: usize, stop: usize) -> usize
 // The same for n bytes of any value.
 fn past_bytes(at: usize, stop: usize, n: usize) -> usize
     requires { ⌜ (0 < at) × (at ≤ stop) ⌝ }
-    ensures { λ r. ⌜ placeOf r ≡ pick (leb n (stop - at)) (some (at + n)) none ⌝ }
+    ensures { λ r. ⌜ placeOrNone r ≡ pick (leb n (stop - at)) (some (at + n)) none ⌝ }
 {
     if stop - at < n { 0 } else { at + n }
 }
@@ -128,7 +128,7 @@ fn past_bytes(at: usize, stop: usize, n: usize) -> usize
 // The same for a count and so many items.
 fn past_counted(s: &[u8], at: usize, stop: usize, form: usize) -> usize
     requires { ⌜ (0 < at) × ((at ≤ stop) × (stop ≤ length (now s))) ⌝ }
-    ensures { λ r. ⌜ placeOf r ≡ past (counted (itemForm form)) (now (s .entry)) stop at ⌝ }
+    ensures { λ r. ⌜ placeOrNone r ≡ past (counted (itemForm form)) (now (s .entry)) stop at ⌝ }
 {
     if stop - at < 2 {
         return 0;
@@ -149,7 +149,7 @@ fn past_counted(s: &[u8], at: usize, stop: usize, form: usize) -> usize
 // The same for items to the record's end.
 fn past_listed(s: &[u8], at: usize, stop: usize, form: usize) -> usize
     requires { ⌜ (0 < at) × ((at ≤ stop) × (stop ≤ length (now s))) ⌝ }
-    ensures { λ r. ⌜ placeOf r ≡ past (listed (itemForm form)) (now (s .entry)) stop at ⌝ }
+    ensures { λ r. ⌜ placeOrNone r ≡ past (listed (itemForm form)) (now (s .entry)) stop at ⌝ }
 {
     let room = stop - at;
     let size = size_of(form);
@@ -166,7 +166,7 @@ fn past_listed(s: &[u8], at: usize, stop: usize, form: usize) -> usize
 // The same for a field by its digit.
 fn past_field(s: &[u8], at: usize, stop: usize, form: usize) -> usize
     requires { ⌜ (0 < at) × ((at ≤ stop) × (stop ≤ length (now s))) ⌝ }
-    ensures { λ r. ⌜ placeOf r ≡ past (fieldOf form) (now (s .entry)) stop at ⌝ }
+    ensures { λ r. ⌜ placeOrNone r ≡ past (fieldOf form) (now (s .entry)) stop at ⌝ }
 {
     match form {
         1 => past_u16(s, at, stop, HIGHEST_ID),
@@ -189,7 +189,7 @@ fn past_field(s: &[u8], at: usize, stop: usize, form: usize) -> usize
 // The place after all fields of a code, or 0.
 fn past_fields(s: &[u8], at: usize, stop: usize, code: usize) -> usize
     requires { ⌜ (0 < at) × ((at ≤ stop) × ((stop ≤ length (now s)) × (code < 1048576))) ⌝ }
-    ensures { λ r. ⌜ placeOf r ≡ pastAll (fieldsOf code) (now (s .entry)) stop at ⌝ }
+    ensures { λ r. ⌜ placeOrNone r ≡ pastAll (fieldsOf code) (now (s .entry)) stop at ⌝ }
 {
     let mut place = at;
     let mut left = code;
@@ -217,7 +217,7 @@ fn before_own(class: usize) -> usize
 // The place after all fields of a row, or 0.
 pub(crate) fn past_fixed(s: &[u8], at: usize, stop: usize, class: usize, code: usize) -> usize
     requires { ⌜ (0 < at) × ((at ≤ stop) × ((stop ≤ length (now s)) × (code < 1048576))) ⌝ }
-    ensures { λ r. ⌜ placeOf r ≡ pastAll (withOrigin class (fieldsOf code)) (now (s .entry)) stop at ⌝ }
+    ensures { λ r. ⌜ placeOrNone r ≡ pastAll (withOrigin class (fieldsOf code)) (now (s .entry)) stop at ⌝ }
 {
     let own = past_bytes(at, stop, before_own(class));
     if own == 0 {

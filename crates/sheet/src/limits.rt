@@ -7,12 +7,13 @@ ghost use Rattle.definitions.specs.Records.{pick, readRecords};
 ghost use Rattle.definitions.specs.ContractSheet.{countTrees, noneBefore, limitTrees};
 ghost use Rattle.sheet.specs.Forms.{limitsOf};
 ghost use Rattle.sheet.specs.Limits.{tooMany, tooWide};
-ghost use Rattle.sheet.specs.Passed.{Passed, Standing, valuesOf, childrenOf};
+ghost use Rattle.sheet.specs.Passed.{Passed, Standing, valuesAt, childrenOf};
 use crate::LimitCheck;
 use crate::places::body_of;
 use crate::places::count;
 use format::KIND;
 use format::contract::AFTER_NAME;
+use format::contract::MOST_DEPTH;
 use format::contract::PARAM;
 use format::contract::PARAM_COUNT;
 use format::kinds;
@@ -31,9 +32,6 @@ const MOST_PARAMS: usize = 16;
 
 const MOST_ARGUMENTS: usize = 16;
 
-// The depth of the deepest record; the contract's is 1.
-const MOST_DEPTH: usize = 40;
-
 // Whether a record is one too many, after so many storage fields, structs and functions.
 fn too_many(kind: usize, storage: usize, structs: usize, functions: usize) -> bool
     ensures { λ r. ⌜ r ≡ tooMany kind storage structs functions ⌝ }
@@ -49,7 +47,7 @@ fn too_many(kind: usize, storage: usize, structs: usize, functions: usize) -> bo
 // Whether a record has over 64 fields, over 16 parameters or over 16 arguments.
 fn too_wide(s: &[u8], at: usize, stop: usize, kind: usize) -> bool
     requires { ⌜ Standing (now s) at stop kind ⌝ }
-    ensures { λ r. ⌜ r ≡ tooWide kind (valuesOf (now (s .entry)) at) (countTrees (childrenOf (now (s .entry)) at)) ⌝ }
+    ensures { λ r. ⌜ r ≡ tooWide kind (valuesAt (now (s .entry)) at) (countTrees (childrenOf (now (s .entry)) at)) ⌝ }
 {
     match kind {
         kinds::STRUCT => MOST_FIELDS < (stop - (at + AFTER_NAME)) / PARAM,

@@ -4,7 +4,7 @@ ghost use mathlib.Core.Bool.{true};
 ghost use Prim.Native.Nat.{_≤_, _<_};
 ghost use lib.ListN.{length};
 ghost use Rattle.definitions.specs.Records.{Bad, mayEnd, checkRecords};
-ghost use Rattle.sheet.specs.Codes.{patternOf, coded, Leaves, kindAt};
+ghost use Rattle.sheet.specs.Codes.{patternOf, coded, Leaves, fittingKind};
 ghost use Rattle.sheet.specs.Forms.{formOf, faultOf};
 use crate::Form;
 use crate::fixed_fields::past_fixed;
@@ -26,9 +26,9 @@ const ONE: usize = 1;
 const MANY: usize = 3;
 
 // The kind of the record at a place, if its length fits what is left of its parent; else 0, which is no kind.
-fn kind_at(s: &[u8], at: usize, end: usize) -> usize
+fn fitting_kind(s: &[u8], at: usize, end: usize) -> usize
     requires { ⌜ (at ≤ end) × (end ≤ length (now s)) ⌝ }
-    ensures { λ r. ⌜ r ≡ kindAt (now (s .entry)) at end ⌝ }
+    ensures { λ r. ⌜ r ≡ fittingKind (now (s .entry)) at end ⌝ }
 {
     let room = end - at;
     if room < HEAD {
@@ -109,7 +109,7 @@ pub(crate) fn records(s: &[u8], at: usize, end: usize, pattern: usize) -> usize
     let mut place = at;
     let mut left = pattern;
     while place < end {
-        let row = row_of(kind_at(s, place, end));
+        let row = row_of(fitting_kind(s, place, end));
         let class = row % DIGIT;
         let fixed = row / DIGIT % FIXED;
         let children = row / CHILDREN;

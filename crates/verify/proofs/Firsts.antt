@@ -20,7 +20,7 @@ use Rattle.program_nodes.proofs.Walk.{InstrStep, instrs-step, BlockStep, blocks
 use Rattle.program_nodes.proofs.Definitions.{paramsFrom, params-front, instr-definitions, blocks-definitions}
 use Rattle.program_nodes.proofs.Ascending.{ascends}
 use Rattle.verify.specs.Answers.{named}
-use Rattle.verify.specs.Promises.{Outcome, Same, Defines, resultHere, defineHere, DefinesResult, DefinesBlock}
+use Rattle.verify.specs.Promises.{Outcome, SameTable, Defines, resultHere, defineHere, DefinesResult, DefinesBlock}
 use Rattle.verify.proofs.Steps.{failed, passed, goes-on}
 use Rattle.verify.proofs.Tables.{insert-new, insert-old, Grows, insert-grows, result-grows, block-grows}
 
@@ -28,12 +28,12 @@ use Rattle.verify.proofs.Tables.{insert-new, insert-old, Grows, insert-
 record So (s : List ℕ) (f : Function) (rest after : List Definition) (left : Defined → Checked Defined) (goal : Outcome) : Type 0 where
   table : Defined
   before : List Definition
-  same : Same table before
+  same : SameTable table before
   split : definitionsOf s f ≡ before ++ (rest ++ after)
   goes : named (f .name .0) (left table) ≡ goal
 
 pub record Rest (s : List ℕ) (f : Function) (own : List Definition) (whole : Defined → Checked Defined) (rest : List Definition) (left : Defined → Checked Defined) : Type 0 where
-  so : (ds : Defined) (before after : List Definition) → Same ds before → definitionsOf s f ≡ before ++ (own ++ after) → So s f rest after left (named (f .name .0) (whole ds))
+  so : (ds : Defined) (before after : List Definition) → SameTable ds before → definitionsOf s f ≡ before ++ (own ++ after) → So s f rest after left (named (f .name .0) (whole ds))
 
 pub all-left : {s : List ℕ} {f : Function} {own : List Definition} {whole : Defined → Checked Defined} → Rest s f own whole own whole
 all-left = record { so = λ ds before after S e. record { table = ds; before = before; same = S; split = e; goes = refl } }

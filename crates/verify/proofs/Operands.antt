@@ -13,20 +13,16 @@ use Rattle.definitions.specs.Ast.{BinOp}
 use Rattle.definitions.specs.Ir.{IrType, eqType}
 use Rattle.definitions.specs.Records.{optFrom}
 use Rattle.definitions.specs.Verify.{VerifyError, Checked, Defined, definedType, checkValueRef, verifyInstr, verifyTerminator}
-use Rattle.definitions.proofs.Results.{by-test}
+use Rattle.definitions.proofs.Results.{by-test, by-eq}
 use Rattle.program_nodes.specs.Offsets.{fieldsAt, ownAt, leftAt, rightAt}
 use Rattle.program_nodes.specs.Positions.{rawType, fromRaw, Numbered, typeHere, irOf, FunctionHere}
 use Rattle.program_nodes.specs.Definitions.{definitionsOf, firstType}
 use Rattle.program_nodes.specs.declared.Function.{Function}
 use Rattle.program_nodes.proofs.Types.{eq-raw}
 use Rattle.verify.specs.Answers.{named}
-use Rattle.verify.specs.Promises.{Outcome, Same, Checks, targetCheck, binaryCheck, termCheck, returnHere, branchHere, checkCondition}
+use Rattle.verify.specs.Promises.{Outcome, SameTable, Checks, targetCheck, binaryCheck, termCheck, returnHere, branchHere, checkCondition}
 use Rattle.verify.proofs.Firsts.{absent, present}
 use Rattle.verify.proofs.Values.{from-raw, Typed, untyped, typed}
-
--- by whether two numbers are equal
-by-eq : {G : Type 0} (x y : ℕ) → (x ≡ y → G) → ((x ≡ y → ⊥) → G) → G
-by-eq x y same other = by-test (eqb x y) (λ z. same (eqb-true x y z)) (λ z. other (eqb-false x y z))
 
 -- types are equal as their numbers are
 module _ {a b : IrType} {x y : ℕ} (A : Numbered (some a) x) (B : Numbered (some b) y) where

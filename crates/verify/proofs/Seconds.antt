@@ -10,13 +10,13 @@ use Rattle.definitions.specs.Ir.{Terminator, IrFunction}
 use Rattle.definitions.specs.Records.{readRecords}
 use Rattle.definitions.specs.Verify.{VerifyError, Checked, Defined, defineParams, defineBlocks, verifyInstrs, verifyBlock, verifyBlocks, verifyFunction, verifyFunctions}
 use Rattle.definitions.proofs.Results.{err-ok}
-use Rattle.program_nodes.specs.Offsets.{paramsAt}
+use Rattle.program_nodes.specs.Offsets.{firstParamAt}
 use Rattle.program_nodes.specs.Positions.{kindHere, instrHere, instrsHere, termHere, terminatorHere, blocksHere, functionsHere, idsOfAll, irOf, FunctionHere}
 use Rattle.program_nodes.specs.Definitions.{Definition, blocksDefinitions, paramsOf, definitionsOf}
 use Rattle.program_nodes.specs.declared.Function.{Function}
 use Rattle.program_nodes.proofs.Walk.{InstrStep, TermStep, instrs-step, terminator-instr, instrs-term, terminator-term, instrs-end, terminator-end, BlockStep, blocks-step, blocks-end}
 use Rattle.verify.specs.Answers.{named}
-use Rattle.verify.specs.Promises.{Outcome, Same, Says, Checks, DefinesBlocks, DefinesParams, instrCheck, termCheck, blockCheck, blocksCheck}
+use Rattle.verify.specs.Promises.{Outcome, SameTable, Says, Checks, DefinesBlocks, DefinesParams, instrCheck, termCheck, blockCheck, blocksCheck}
 use Rattle.verify.proofs.Steps.{failed, passed, mapped, Leads, lead-over, lead-failed, lead-passed}
 use Rattle.verify.proofs.Tables.{nothing-same, params-grow, blocks-grow}
 
@@ -88,8 +88,8 @@ module _ {s : List ℕ} {f : Function} (F : FunctionHere s f) where
     params : (ds : Defined) × (defineParams (irOf s f .params) [] ≡ ok ds)
     params = passed (f .name .0) (defineParams (irOf s f .params) []) (params-say P)
 
-    params-same : Same (params .0) (paramsOf s f)
-    params-same = params-grow (irOf s f .params) (f .at + paramsAt) [] (params .0) [] nothing-same (params .1)
+    params-same : SameTable (params .0) (paramsOf s f)
+    params-same = params-grow (irOf s f .params) (f .at + firstParamAt) [] (params .0) [] nothing-same (params .1)
 
     blocks-say : {r : Outcome} → DefinesBlocks s f r → Says f r (defineBlocks (irOf s f .blocks) (params .0))
     unfolding definitionsOf
@@ -105,7 +105,7 @@ module _ {s : List ℕ} {f : Function} (F : FunctionHere s f) where
     unfolding verifyFunction definitionsOf
     function-says {r} D h =
         let b = passed (f .name .0) (defineBlocks (irOf s f .blocks) (params .0)) (blocks-say D) in
-        let S : Same (b .0) (definitionsOf s f) = blocks-grow (suc (f .stop - f .first)) (omega arith) (F .blocks) (params .0) (b .0) (paramsOf s f) params-same (b .1) in
+        let S : SameTable (b .0) (definitionsOf s f) = blocks-grow (suc (f .stop - f .first)) (omega arith) (F .blocks) (params .0) (b .0) (paramsOf s f) params-same (b .1) in
         h .says (b .0) S
         ∙ sym (ap (λ (r : Checked Defined). named (f .name .0) (r >>= λ (ds : Defined). defineBlocks (irOf s f .blocks) ds >>= blocksCheck s f)) (params .1)
         ∙ ap (λ (r : Checked Defined). named (f .name .0) (r >>= blocksCheck s f)) (b .1))

@@ -10,7 +10,7 @@ use Rattle.program_nodes.specs.Definitions.{definitionsOf}
 use Rattle.program_nodes.specs.declared.Function.{Function}
 use Rattle.verify.specs.Answers.{checkedOf, named}
 use Rattle.verify.specs.declared.Checked.{Checked as Answer}
-use Rattle.verify.specs.Promises.{Outcome, Same, Says, Checks}
+use Rattle.verify.specs.Promises.{Outcome, SameTable, Says, Checks}
 
 -- a test and its answer
 pub not-true : (b : Bool) → not b ≡ true → b ≡ false
@@ -52,7 +52,7 @@ told e h = rw e at h
 
 -- WITH A FUNCTION'S TABLE: what is left says what the whole says
 pub record Leads {A B : Type 0} (s : List ℕ) (f : Function) (whole : Defined → Checked A) (left : Defined → Checked B) : Type 0 where
-  pub same : (ds : Defined) → Same ds (definitionsOf s f) → named (f .name .0) (left ds) ≡ named (f .name .0) (whole ds)
+  pub same : (ds : Defined) → SameTable ds (definitionsOf s f) → named (f .name .0) (left ds) ≡ named (f .name .0) (whole ds)
 
 module _ {A B : Type 0} {s : List ℕ} {f : Function} {whole : Defined → Checked A} {left : Defined → Checked B} (L : Leads s f whole left) where
   pub lead-over : {r : Outcome} → Checks s f r left → Checks s f r whole

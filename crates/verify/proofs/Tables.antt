@@ -20,7 +20,7 @@ use Rattle.program_nodes.specs.Definitions.{Definition, paramDefinitions, resul
 use Rattle.program_nodes.proofs.Walk.{AtRecord, at-end, at-instr, at-term, at-record, instrs-step, instrs-term, instrs-end, AtBlock, no-block, at-block, at-blocks, blocks-step, blocks-end}
 use Rattle.program_nodes.proofs.Definitions.{orElse, first-append, instr-definitions, term-definitions, end-definitions, blocks-definitions, no-blocks}
 use Rattle.program_nodes.proofs.Ascending.{Ascends, new-place, old-place}
-use Rattle.verify.specs.Promises.{Agree, Same}
+use Rattle.verify.specs.Promises.{Agree, SameTable}
 
 agree-none : (o : Option Definition) (d : Option IrType) → Agree o d → d ≡ none → o ≡ none
 agree-none none none h e = refl
@@ -33,12 +33,12 @@ agree-some none none t h e = absurd (let z : _≡_ {A = ℕ} 0 1 = cc in omega a
 agree-some (some x) d t h e = (x, refl)
 agree-some none (some u) t h e = absurd h
 
-pub nothing-same : Same [] []
+pub nothing-same : SameTable [] []
 unfolding firstDefinition
 nothing-same v = tt
 
 -- THE TABLE AFTER ONE MORE
-same-more : (ds : Defined) (pre : List Definition) (e : Definition) (t : IrType) → Same ds pre → definedType (e .value) ds ≡ none → e .type ≡ some t → Same ((e .value, t) ∷ ds) (pre ++ (e ∷ []))
+same-more : (ds : Defined) (pre : List Definition) (e : Definition) (t : IrType) → SameTable ds pre → definedType (e .value) ds ≡ none → e .type ≡ some t → SameTable ((e .value, t) ∷ ds) (pre ++ (e ∷ []))
 unfolding firstDefinition
 same-more ds pre e t S n ty v = go (eqb (e .value) v) refl
   where
@@ -59,7 +59,7 @@ same-more ds pre e t S n ty v = go (eqb (e .value) v) refl
         other (some x) h = h
 
 -- ONE DEFINITION of a type t: it is new exactly if its first place is its own
-module _ (ds : Defined) (pre : List Definition) (e : Definition) (post : List Definition) (lo : ℕ) (a : Ascends lo (pre ++ (e ∷ post))) (S : Same ds pre) (t : IrType) where
+module _ (ds : Defined) (pre : List Definition) (e : Definition) (post : List Definition) (lo : ℕ) (a : Ascends lo (pre ++ (e ∷ post))) (S : SameTable ds pre) (t : IrType) where
   pub insert-new : firstPlace (e .value) (pre ++ (e ∷ post)) ≡ e .place → insert (e .value) t ds ≡ ok ((e .value, t) ∷ ds)
   insert-new p = go (definedType (e .value) ds) refl
     where
@@ -78,10 +78,10 @@ module _ (ds : Defined) (pre : List Definition) (e : Definition) (post : List De
 
 -- THE TABLE AFTER A PART THAT PASSED has the part's definitions too
 abbrev pub Grows : (Defined → Checked Defined) → List Definition → Type 0
-Grows k own = (ds es : Defined) (pre : List Definition) → Same ds pre → k ds ≡ ok es → Same es (pre ++ own)
+Grows k own = (ds es : Defined) (pre : List Definition) → SameTable ds pre → k ds ≡ ok es → SameTable es (pre ++ own)
 
 grows-none : Grows (λ (ds : Defined). ok ds) []
-grows-none ds es pre S e = rw append-nil (subst (λ (d : Defined). Same d pre) (ok-inj e) S)
+grows-none ds es pre S e = rw append-nil (subst (λ (d : Defined). SameTable d pre) (ok-inj e) S)
 
 grows-then : (k l : Defined → Checked Defined) (a b : List Definition) → Grows k a → Grows l b → Grows (λ (ds : Defined). k ds >>= l) (a ++ b)
 grows-then k l a b f g ds es pre S e = taking (k ds) l e (λ d first rest. rw (← append-assoc pre a b) (g d es (pre ++ a) (f ds d pre S first) rest))
@@ -89,11 +89,11 @@ grows-then k l a b f g ds es pre S e = taking (k ds) l e (λ d first rest. rw (�
 pub insert-grows : (d : Definition) (t : IrType) → d .type ≡ some t → Grows (insert (d .value) t) (d ∷ [])
 insert-grows d t ty ds es pre S e = go (definedType (d .value) ds) refl
   where
-    go : (o : Option IrType) → definedType (d .value) ds ≡ o → Same es (pre ++ (d ∷ []))
+    go : (o : Option IrType) → definedType (d .value) ds ≡ o → SameTable es (pre ++ (d ∷ []))
     go (some u) q = absurd (err-ok (rw (q, insert) at e))
     go none q =
         let w : _≡_ {A = Checked Defined} (ok ((d .value, t) ∷ ds)) (ok es) = rw (q, insert) at e in
-        subst (λ (x : Defined). Same x (pre ++ (d ∷ []))) (ok-inj w) (same-more ds pre d t S q ty)
+        subst (λ (x : Defined). SameTable x (pre ++ (d ∷ []))) (ok-inj w) (same-more ds pre d t S q ty)
 
 pub result-grows : (i : Instruction) (q : ℕ) (r : Option ℕ) → Grows (defineResult i r) (resultDefinition q r i)
 unfolding defineResult

@@ -16,7 +16,7 @@ use Rattle.program_nodes.specs.Definitions.{Definition, definitionsOf, firstDef
 use Rattle.program_nodes.specs.declared.Function.{Function}
 use Rattle.program_nodes.proofs.Types.{raw-back, no-type, a-type}
 use Rattle.verify.specs.Answers.{named}
-use Rattle.verify.specs.Promises.{Outcome, Agree, Same, Checks}
+use Rattle.verify.specs.Promises.{Outcome, Agree, SameTable, Checks}
 use Rattle.verify.proofs.Steps.{Leads, lead-over, lead-failed, lead-passed}
 
 -- a number of four bytes gives its type back
@@ -39,13 +39,13 @@ pub record Typed (ds : Defined) (v raw : ℕ) : Type 0 where
   pub numbered : Numbered (some type) raw
 
 module _ {s : List ℕ} {f : Function} (F : FunctionHere s f) (v : ℕ) {raw : ℕ} (N : Numbered (firstType v (definitionsOf s f)) raw) where
-  in-table : (ds : Defined) → Same ds (definitionsOf s f) → Numbered (definedType v ds) raw
+  in-table : (ds : Defined) → SameTable ds (definitionsOf s f) → Numbered (definedType v ds) raw
   in-table ds S = record { is = N .is ∙ sym (defined-raw (firstDefinition v (definitionsOf s f)) (definedType v ds) (S v)); small = N .small }
 
-  pub untyped : raw ≡ 65535 → (ds : Defined) → Same ds (definitionsOf s f) → checkValueRef v ds ≡ err (VerifyError.UndefinedValue v)
+  pub untyped : raw ≡ 65535 → (ds : Defined) → SameTable ds (definitionsOf s f) → checkValueRef v ds ≡ err (VerifyError.UndefinedValue v)
   untyped z ds S = rw (no-type (definedType v ds) (in-table ds S) z, checkValueRef)
 
-  pub typed : (raw ≡ 65535 → ⊥) → (ds : Defined) → Same ds (definitionsOf s f) → Typed ds v raw
+  pub typed : (raw ≡ 65535 → ⊥) → (ds : Defined) → SameTable ds (definitionsOf s f) → Typed ds v raw
   typed n ds S =
       let t = a-type (definedType v ds) (in-table ds S) n in
       record { type = t .0; is = ap (λ (o : Option IrType). okOrElse o (VerifyError.UndefinedValue v)) (t .1); numbered = record { is = in-table ds S .is ∙ ap rawOpt (t .1); small = N .small } }

@@ -27,8 +27,8 @@ Agree none (some t) = ⊥
 Agree (some d) none = ⊥
 Agree (some d) (some t) = d .type ≡ some t
 
-abbrev pub Same : Defined → List Definition → Type 0
-Same ds es = (v : ℕ) → Agree (firstDefinition v es) (definedType v ds)
+abbrev pub SameTable : Defined → List Definition → Type 0
+SameTable ds es = (v : ℕ) → Agree (firstDefinition v es) (definedType v ds)
 
 -- r is what x says, in the function f
 abbrev pub Says : {A : Type 0} → Function → Outcome → Checked A → Type 0
@@ -36,11 +36,11 @@ Says f r x = r ≡ named (f .name .0) x
 
 -- r is what k says with f's table
 pub record Checks {A : Type 0} (s : List ℕ) (f : Function) (r : Outcome) (k : Defined → Checked A) : Type 0 where
-  pub says : (ds : Defined) → Same ds (definitionsOf s f) → Says f r (k ds)
+  pub says : (ds : Defined) → SameTable ds (definitionsOf s f) → Says f r (k ds)
 
 -- r is what k says with the table before its own definitions
 pub record Defines (s : List ℕ) (f : Function) (r : Outcome) (own : List Definition) (k : Defined → Checked Defined) : Type 0 where
-  pub says : (ds : Defined) (before after : List Definition) → Same ds before → definitionsOf s f ≡ before ++ (own ++ after) → Says f r (k ds)
+  pub says : (ds : Defined) (before after : List Definition) → SameTable ds before → definitionsOf s f ≡ before ++ (own ++ after) → Says f r (k ds)
 
 -- FIRST PASS: r is what the definition by the result of the instruction of a kind at q says, those of a block's records from q on, those of all blocks,
 -- and those of the parameters

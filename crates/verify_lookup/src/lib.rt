@@ -8,6 +8,7 @@ ghost use Rattle.definitions.specs.Records.{readRecords};
 ghost use Rattle.definitions.specs.Verify.{blockIds};
 ghost use Rattle.program_nodes.specs.Positions.{Numbered, BlockFrom, idsOfAll, irOf, ProgramHere, FunctionHere};
 ghost use Rattle.program_nodes.specs.Definitions.{blockDefinitions, paramsOf, definitionsOf, firstPlace, firstType};
+ghost use Rattle.verify_lookup.specs.Found.{BlockFound, FunctionFound};
 use format::ABSENT;
 use format::kinds;
 use format::program;
@@ -100,19 +101,49 @@ pub fn is_first_definition(s: &[u8], f: Function, v: ValueId, place: usize) -> b
     first_definition(s, f, v) == place
 }
 
+// The place of the first block of the function with the id; 0 if there is none.
+pub fn find_block(s: &[u8], f: Function, b: BlockId) -> usize
+    requires { ⌜ FunctionHere (now s) f ⌝ }
+    ensures { λ r. ⌜ BlockFound (now (s .entry)) f (b .0) r ⌝ }
+{
+    let mut p = f.first;
+    while p < f.stop {
+        if reader::read_u16(s, p + program::BLOCK_ID) == b.0 {
+            return p;
+        }
+        p = program_nodes::stop_at(s, p);
+    }
+    0
+}
+
 // Whether a block of the function has the id.
 pub fn has_block(s: &[u8], f: Function, b: BlockId) -> bool
     requires { ⌜ FunctionHere (now s) f ⌝ }
     ensures { λ r. ⌜ r ≡ contains (b .0) (blockIds (irOf (now (s .entry)) f .blocks)) ⌝ }
 {
-    let mut p = f.first;
-    while p < f.stop {
-        if reader::read_u16(s, p + program::BLOCK_ID) == b.0 {
-            return true;
+    let p = find_block(s, f, b);
+    if p == 0 {
+        return false;
+    }
+    true
+}
+
+// The place of the first function of the program with the id; 0 if there is none.
+pub fn find_function(s: &[u8], g: FunctionId) -> usize
+    requires { ⌜ ProgramHere (now s) ⌝ }
+    ensures { λ r. ⌜ FunctionFound (now (s .entry)) (g .0) r ⌝ }
+{
+    let mut p = program::FUNCTIONS;
+    while p < s.len() {
+        if program_nodes::kind_at(s, p) != kinds::IR_FUNCTION {
+            return 0;
+        }
+        if reader::read_u16(s, p + program::FUNCTION_ID) == g.0 {
+            return p;
         }
         p = program_nodes::stop_at(s, p);
     }
-    false
+    0
 }
 
 // Whether a function of the program has the id.
@@ -120,15 +151,9 @@ pub fn has_function(s: &[u8], g: FunctionId) -> bool
     requires { ⌜ ProgramHere (now s) ⌝ }
     ensures { λ r. ⌜ r ≡ contains (g .0) (idsOfAll (now (s .entry))) ⌝ }
 {
-    let mut p = program::FUNCTIONS;
-    while p < s.len() {
-        if program_nodes::kind_at(s, p) != kinds::IR_FUNCTION {
-            return false;
-        }
-        if reader::read_u16(s, p + program::FUNCTION_ID) == g.0 {
-            return true;
-        }
-        p = program_nodes::stop_at(s, p);
+    let p = find_function(s, g);
+    if p == 0 {
+        return false;
     }
-    false
+    true
 }

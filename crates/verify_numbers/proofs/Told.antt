@@ -1,5 +1,5 @@
 -- The numbers of the value that a value was found to be are its own, and so are those of its types. Assumes nothing.
-use mathlib.Core.Path.{_≡_, sym, subst}
+use mathlib.Core.Path.{_≡_, subst}
 use mathlib.Core.List.{List, [], _∷_}
 use Prim.Native.Nat.{ℕ, _+_, _*_, _/_, _%_, _<_}
 use native.Mathlib.Omega.{arith}
@@ -7,13 +7,10 @@ use Rattle.definitions.specs.Result.{err, Done}
 use Rattle.definitions.specs.Answers.{numbersOf, verifyRefusal}
 use Rattle.numbers.specs.declared.Numbers.{Numbers}
 use Rattle.numbers.specs.Tells.{Tells}
+use Rattle.numbers.proofs.Told.{found}
 use Rattle.verify.specs.declared.VerifyError.{VerifyError}
 use Rattle.verify.specs.declared.Answer.{Answer}
 use Rattle.verify.specs.Answers.{errorOf, answerOf}
-
-module _ {A : Type 0} (f : A → List ℕ) where
-  found : {n : Numbers} {a x : A} → a ≡ x → Tells n (f x) → Tells n (f a)
-  found {n} q = subst (λ (a : A). Tells n (f a)) (sym q)
 
 pub of-error : {n : Numbers} {e x : VerifyError} → e ≡ x → Tells n (numbersOf {A = Done} (err (verifyRefusal (errorOf x)))) → Tells n (numbersOf {A = Done} (err (verifyRefusal (errorOf e))))
 of-error = found (λ (e : VerifyError). numbersOf {A = Done} (err (verifyRefusal (errorOf e))))

@@ -35,7 +35,7 @@ const MORE: u16 = 1_000;
 
 /// How the statements of a contract are spread.
 #[derive(Debug, Clone, Copy, PartialEq, Eq)]
-enum Shape {
+pub enum Shape {
     /// Every kind of statement and expression, in functions of two parts.
     Mixed,
     /// Without blocks, in one function.
@@ -111,7 +111,7 @@ fn declaring(functions: Vec<Function>) -> Contract {
     }
 }
 
-fn of_parts(shape: Shape, parts: usize) -> Contract {
+pub fn of_parts(shape: Shape, parts: usize) -> Contract {
     let repeated = |part: fn() -> Vec<Stmt>, times| (0..times).flat_map(|_| part()).collect();
     let functions = match shape {
         Shape::Straight => {
@@ -127,14 +127,14 @@ fn of_parts(shape: Shape, parts: usize) -> Contract {
 }
 
 /// The contract of the most parts whose sheet has at most `length` bytes.
-fn longest(length: usize, of_parts: impl Fn(usize) -> Contract) -> Contract {
+pub fn longest(length: usize, of_parts: impl Fn(usize) -> Contract) -> Contract {
     let bytes = |parts| contract_write::contract(&of_parts(parts)).len();
     let parts = (1..).take_while(|&parts| bytes(parts) <= length).last();
     of_parts(parts.unwrap_or(0))
 }
 
 /// A contract of about 100 bytes.
-fn small() -> Contract {
+pub fn small() -> Contract {
     let body = vec![
         let_(X, add(ident(P), storage_read(S))),
         storage_write(S, ident(X)),

@@ -1,6 +1,7 @@
 //! The sheets and calls that the bench measures: the archive's and the Rust's,
 //! side by side.
 
+pub mod analyzing;
 mod lowering;
 pub mod measure;
 mod verifying;

@@ -32,6 +32,26 @@ pub fn contract_of_all_kinds() -> Contract {
     }
 }
 
+/// A contract of every kind that the body check accepts.
+pub fn typed_contract_of_all_kinds() -> Contract {
+    let mut contract = contract_of_all_kinds();
+    let read = mapping_read(X, int(1));
+    let point = literal(POINT, vec![(X, read), (POINT, ident(POINT))]);
+    let body = &mut contract.functions[0].body;
+    *body = [typed_expressions(), every_statement()].concat();
+    body.push(mapping_write(X, point, access(ident(POINT), X)));
+    contract
+}
+
+fn typed_expressions() -> Vec<Stmt> {
+    let compare = |number| binary(ident(X), operator(number), storage_read(S));
+    let mut body: Vec<Stmt> = [0, 6, 9].map(|number| Stmt::Expr(compare(number))).to_vec();
+    let hash = call(5, vec![call(7, vec![]), ident(X)]);
+    body.push(let_(X, access(access(ident(POINT), POINT), X)));
+    body.push(Stmt::Expr(call(F, vec![ident(POINT), hash])));
+    body
+}
+
 fn every_expression() -> Vec<Stmt> {
     let compare = |number| binary(ident(X), operator(number), storage_read(S));
     let mut body: Vec<Stmt> = (0..10).map(|number| Stmt::Expr(compare(number))).collect();

@@ -60,6 +60,21 @@ pub fn some(rng: &mut Rng, sheet: &[u8], root: u16) -> Vec<u8> {
     damaged
 }
 
+/// One to three numbers of a sheet replaced by others of it, or by some that
+/// are close: the form mostly stays.
+pub fn numbers(rng: &mut Rng, sheet: &[u8], root: u16) -> Vec<u8> {
+    let mut spots = spots(&parse::parse(sheet, root));
+    spots.retain(|spot| matches!(spot, Spot::Number(_)));
+    let mut damaged = sheet.to_vec();
+    for _ in 0..rng.between(1, 3) {
+        if let Spot::Number(place) = rng.pick(&spots) {
+            let new = new_number(rng, u16_in(&damaged, place), &spots, &damaged);
+            put(&mut damaged, place, &new.to_le_bytes());
+        }
+    }
+    damaged
+}
+
 fn u16_in(bytes: &[u8], place: usize) -> u16 {
     u16::from_le_bytes([bytes[place], bytes[place + 1]])
 }

@@ -38,8 +38,8 @@ pub fn own_type(name: u16) -> Ty {
     }
 }
 
-/// A type name as a call reads it.
-fn call_type(name: u16) -> Ty {
+/// A type name as a call reads it, and as the body check does.
+pub fn call_type(name: u16) -> Ty {
     match name {
         0 | 4 => Ty::Struct(name),
         other => own_type(other),
@@ -124,8 +124,11 @@ impl Items {
     /// The type of a call of this name; none for a void one. The last function
     /// of a name serves.
     pub fn call_type(&self, name: u16) -> Option<Ty> {
-        let last = self.functions.iter().rev().find(|f| f.name == name)?;
-        last.returns.map(call_type)
+        self.last_function(name)?.returns.map(call_type)
+    }
+
+    pub fn last_function(&self, name: u16) -> Option<&Signature> {
+        self.functions.iter().rev().find(|f| f.name == name)
     }
 
     /// The functions whose calls have this type; for none, the void ones.
@@ -138,6 +141,13 @@ impl Items {
     pub fn struct_fields(&self, name: u16) -> &[(u16, u16)] {
         let last = self.structs.iter().rev().find(|s| s.0 == name);
         last.map_or(&[], |s| &s.1)
+    }
+
+    /// The type of the last field of a name of the last struct of a name.
+    pub fn field_type(&self, structure: u16, name: u16) -> Option<Ty> {
+        let fields = self.struct_fields(structure).iter().rev();
+        let mut named = fields.filter(|field| field.0 == name);
+        named.next().map(|field| call_type(field.1))
     }
 
     /// The contract that declares all this, with the given function bodies.

@@ -1,5 +1,7 @@
 //! Cases: sheets, and for lowering the length of the lent output.
 
+pub mod analysis;
+mod analysis_names;
 pub mod bodies;
 mod body;
 mod calls;
@@ -16,9 +18,10 @@ mod program;
 pub mod rng;
 mod rooms;
 mod rules;
+pub mod typed;
 mod verify_limits;
 
-pub use catalogue::{contract_of_all_kinds, program_of_all_kinds};
+pub use catalogue::{contract_of_all_kinds, program_of_all_kinds, typed_contract_of_all_kinds};
 pub use damage::splice;
 
 use crate::oracle::{lower_answer, Answer};
@@ -51,6 +54,21 @@ pub fn fixed_lower_cases() -> Vec<Case> {
     cases.extend(overflow::cases());
     cases.extend(rooms::cases());
     let all_kinds = contract_write::contract(&contract_of_all_kinds());
+    cases.extend(systematic(&all_kinds, kind::CONTRACT));
+    cases
+}
+
+/// The body check's cases without chance.
+pub fn fixed_analyze_cases() -> Vec<Case> {
+    let mut contracts = analysis::contracts();
+    contracts.extend(analysis_names::contracts());
+    let sheets = contracts.iter().map(contract_write::contract);
+    let mut cases: Vec<Case> = sheets.map(Case::of).collect();
+    cases.extend(rule_cases());
+    cases.extend(lower_limits::cases());
+    cases.extend(overflow::cases());
+    cases.extend(nesting::of_depth_40().into_iter().map(Case::of));
+    let all_kinds = contract_write::contract(&typed_contract_of_all_kinds());
     cases.extend(systematic(&all_kinds, kind::CONTRACT));
     cases
 }
@@ -108,6 +126,26 @@ pub fn lower_case(seed: u64, index: u64) -> Case {
         false => SHEET_LIMIT,
     };
     Case { sheet, room }
+}
+
+/// The body check's case of a seed and an index.
+pub fn analyze_case(seed: u64, index: u64) -> Case {
+    let rng = &mut Rng::of_case(seed, index);
+    let style = Style::random(rng);
+    let contract = match rng.below(20) {
+        0 => typed_contract_of_all_kinds(),
+        1 | 2 => contract::contract(rng, style),
+        _ => {
+            let slip = rng.pick(&[0, 0, 0, 100, 30, 10]);
+            typed::contract(rng, slip)
+        }
+    };
+    let sheet = contract_write::contract(&contract);
+    Case::of(match rng.below(8) {
+        0 => damage::some(rng, &sheet, kind::CONTRACT),
+        1..=3 => damage::numbers(rng, &sheet, kind::CONTRACT),
+        _ => sheet,
+    })
 }
 
 /// A length about that of the finished sheet, or any other.

@@ -1,6 +1,7 @@
 //! The driver finds and shrinks the differences of faulty subjects.
 
-use crate::driver::{compare, sample, Run, Task};
+use crate::analysis::analyze;
+use crate::driver::{compare, numbers, sample, Run, Task};
 use crate::generate::Case;
 use crate::oracle::{lower_answer, verify_answer, Answer};
 use crate::shrink::shrink;
@@ -49,6 +50,33 @@ impl Subject for Leaving {
     }
 }
 
+/// Gives the place of a literal's field, 8 bytes behind, instead of its own.
+struct Misplacing;
+
+impl Subject for Misplacing {
+    fn verify(&self, sheet: &[u8]) -> Answer {
+        SelfSubject.verify(sheet)
+    }
+
+    fn check(&self, sheet: &[u8]) -> Answer {
+        SelfSubject.check(sheet)
+    }
+
+    fn lower(&self, sheet: &[u8], out: &mut [u8]) -> Answer {
+        SelfSubject.lower(sheet, out)
+    }
+
+    fn analyze(&self, sheet: &[u8]) -> Option<Answer> {
+        let mut answer = analyze(sheet);
+        if let Answer::Refused { details, .. } = &mut answer {
+            if let [place, 8] = &mut details[..] {
+                *place += 8;
+            }
+        }
+        Some(answer)
+    }
+}
+
 /// The first random case that differs, shrunk.
 fn first_difference(subject: &dyn Subject, task: Task) -> Case {
     let differs = |case: &Case| compare(subject, task, case).is_err();
@@ -82,6 +110,13 @@ fn a_wrong_verifying_of_what_was_lowered_is_found_and_shrunk() {
 }
 
 #[test]
+fn a_wrong_place_is_found_and_shrunk() {
+    let small = first_difference(&Misplacing, Task::Analyze);
+    assert!(analyze(&small.sheet).to_string().ends_with(" 8"));
+    assert!(small.sheet.len() <= 80, "{} bytes", small.sheet.len());
+}
+
+#[test]
 fn every_number_occurs() {
     for (task, count) in [(Task::Lower, 3_000), (Task::Verify, 3_000)] {
         let mut run = Run::new(&SelfSubject, task);
@@ -94,12 +129,12 @@ fn every_number_occurs() {
 
 #[test]
 fn a_sample_has_every_number() {
-    for (task, numbers) in [(Task::Lower, 17), (Task::Verify, 13)] {
-        let mut seen: Vec<u16> = sample(task, 1, 60)
+    for (task, count) in [(Task::Lower, 17), (Task::Verify, 13), (Task::Analyze, 17)] {
+        let mut seen: Vec<(u16, u32)> = sample(task, 1, 60)
             .iter()
-            .map(|(_, answer)| answer.number())
+            .map(|(_, answer)| numbers(answer))
             .collect();
         seen.dedup();
-        assert_eq!(seen.len(), numbers);
+        assert_eq!(seen.len(), count);
     }
 }

@@ -1,5 +1,6 @@
 //! Sheets written byte by byte, for those that no writer would write.
 
+use crate::analysis::analyze;
 use crate::ast::{Contract, Expr, Stmt};
 use crate::build::{contract, function};
 use crate::oracle::{lower_answer, verify_answer};
@@ -91,4 +92,20 @@ pub fn lowered_expr(value: Expr) -> String {
 /// Whether a printed answer is an acceptance.
 pub fn accepted(line: &str) -> bool {
     line.starts_with("OK")
+}
+
+/// The printed answer of the body check to the sheet of a contract.
+pub fn analyzed(contract: &Contract) -> String {
+    analyze(&contract_write::contract(contract)).to_string()
+}
+
+/// The printed answer of the body check to a contract of one function.
+pub fn analyzed_body(body: Vec<Stmt>) -> String {
+    analyzed(&of_body(body))
+}
+
+/// The printed answer of the body check to one expression, which starts at
+/// byte 28.
+pub fn analyzed_expr(value: Expr) -> String {
+    analyzed_body(vec![Stmt::Expr(value)])
 }

@@ -1,4 +1,4 @@
--- `analyze_env::insert`: the store is above what was known, and its class has it for a head. Assumes nothing.
+-- `analyze_env::insert`: the store is above what was known, and its chain has it for a head. Assumes nothing.
 use borrow.Author.Needs.{needs}
 use Rattle.analyze_env.proofs.Chains.{inserted}
 use Rattle.analyze_env.proofs.insert.Statement.{statement}
@@ -7,7 +7,7 @@ use Rattle.analyze_env.proofs.insert.Tie as tie
 returns : tie.Need-returns
 returns c =
     let s = c .before .before .before .before .before in
-    inserted (c .entry .result) (s .pre .0) (s .pre .1) (c .before .before .class-of .ensures) (c .entry .ensures)
+    inserted (c .entry .result) (s .pre .0) (s .pre .1) (c .before .before .chain-of .ensures) (c .entry .ensures)
 
 pub insert-spec : {M : Type 1} → statement M
 insert-spec =

@@ -1,4 +1,4 @@
--- `analyze_env::lookup`: along the links of the name's class. Assumes nothing.
+-- `analyze_env::lookup`: along the links of the name's chain. Assumes nothing.
 use mathlib.Core.Path.{ap, _∙_}
 use mathlib.Core.Option.{some}
 use native.Mathlib.Omega.{arith}
@@ -10,16 +10,16 @@ use Rattle.analyze_env.proofs.lookup.Statement.{statement}
 use Rattle.analyze_env.proofs.lookup.Tie as tie
 
 abbrev Inv-loop : tie.InvT-loop
-Inv-loop entries heads count wanted class i₀ i = Looking (length heads) entries count wanted i
+Inv-loop entries heads count wanted chain i₀ i = Looking (length heads) entries count wanted i
 
 abbrev μ-loop : tie.MeasureT-loop
-μ-loop entries heads count wanted class i₀ i = i
+μ-loop entries heads count wanted chain i₀ i = i
 
 cast-i : tie.Need-cast-i Inv-loop μ-loop
-cast-i c = omega (arith, c .shared-slice-known3 .given (c .before .class-of .result))
+cast-i c = omega (arith, c .shared-slice-known3 .given (c .before .chain-of .result))
 
 loop-holds : tie.Need-loop-holds Inv-loop μ-loop
-loop-holds c = begun (c .before .before .before .before .before .pre) (c .before .class-of .ensures)
+loop-holds c = begun (c .before .before .before .before .before .pre) (c .before .chain-of .ensures)
 
 returns : tie.Need-returns Inv-loop μ-loop
 unfolding nameIn

@@ -1,4 +1,4 @@
--- `analyze_env::undo`: the newest entry's class gets back the head from before it. Assumes nothing.
+-- `analyze_env::undo`: the newest entry's chain gets back the head from before it. Assumes nothing.
 use mathlib.Core.Path.{_≡_, sym}
 use Prim.Native.Nat.{_≤_}
 use native.Mathlib.Omega.{arith}
@@ -19,7 +19,7 @@ loop-again : tie.Need-loop-again Inv-loop μ-loop
 unfolding nameIn linkIn
 loop-again c =
     let l = c .before .before .before in
-    (dropped (l .loop .inv .0) (omega arith) (c .class-of .ensures), rw length-set (l .loop .inv .1), omega arith)
+    (dropped (l .loop .inv .0) (omega arith) (c .chain-of .ensures), rw length-set (l .loop .inv .1), omega arith)
 
 returns : tie.Need-returns Inv-loop μ-loop
 returns c =

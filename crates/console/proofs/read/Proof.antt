@@ -7,7 +7,7 @@ use native.Mathlib.Omega.{arith}
 use lib.ListN.{length}
 use borrow.Author.Needs.{needs}
 use borrow.Rule.Slice.PartMut.{midOf, mid-len}
-use Rattle.console.specs.Input.{Within}
+use Rattle.console.specs.Input.{InputFits}
 use Rattle.console.specs.declared.Input.{Input}
 use Rattle.console.specs.declared.Input.the-variants.{Read}
 use Rattle.console.proofs.Reading.{counts, counted}
@@ -22,7 +22,7 @@ abbrev μ-loop : tie.MeasureT-loop
 
 -- what was read to the part of `buf` from `done` on, which then held `part`, lies within `buf`
 further : (done n : ℕ) (buf part : List ℕ) (r : Input)
-    → length part ≡ length (midOf done (length buf - done) buf) → r ≡ Read n → Within r part → done ≤ length buf
+    → length part ≡ length (midOf done (length buf - done) buf) → r ≡ Read n → InputFits r part → done ≤ length buf
     → done + n ≤ length buf
 further done n buf part r e q w h =
     let fits = counted n r part q w .0 in

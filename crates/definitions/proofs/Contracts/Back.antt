@@ -8,8 +8,8 @@ use lib.Dec.{eqb}
 use borrow.Author.Tests.{eqb-true, eqb-false}
 use Rattle.definitions.specs.Ast.{BinOp, Expr}
 use Rattle.definitions.specs.Grammar.{Class, upTo, number, single, Field, Pattern, done, one, perhaps, many, rows}
-use Rattle.definitions.specs.Records.{pick, small, Value, item, Tree, node, Trees, tnil, tcons, numAt, kindIn}
-use Rattle.definitions.specs.ContractSheet.{Blocks, andBlock, opOf, opNumber, exprOf, exprsOf, fieldInitsOf, stmtOf, stmtsOf, addBlock, storageOf, structOf, functionOf, contractOf, exprTree, exprTrees, fieldInitTrees, stmtTree, stmtTrees, storageTree, structTree, functionTree, contractTree}
+use Rattle.definitions.specs.Records.{pick, small, FieldValue, item, Tree, node, Trees, tnil, tcons, numAt, kindIn}
+use Rattle.definitions.specs.ContractSheet.{BlockRecords, andBlock, opOf, opNumber, exprOf, exprsOf, fieldInitsOf, stmtOf, stmtsOf, addBlock, storageOf, structOf, functionOf, contractOf, exprTree, exprTrees, fieldInitTrees, stmtTree, stmtTrees, storageTree, structTree, functionTree, contractTree}
 use Rattle.definitions.proofs.Sheets.Fits.{fitSmall, fitRaw, fitOne}
 use Rattle.definitions.proofs.Sheets.Passed.{picked}
 use Rattle.definitions.proofs.Sheets.Reads.{hnil, hcons}
@@ -51,14 +51,14 @@ module _ (c : Class) where
   bare g at _ ts hnil f = g at ts f
 
   -- its children are none, or one or two expressions
-  childless : {at k : ℕ} {v : List Value} {ts : Trees} → Back c (node at k v tnil) → Follows Back done ts → Back c (node at k v ts)
+  childless : {at k : ℕ} {v : List FieldValue} {ts : Trees} → Back c (node at k v tnil) → Follows Back done ts → Back c (node at k v ts)
   childless g over = g
 
-  lone : {at k : ℕ} {v : List Value} {ts : Trees} → ((t : Tree) → exprTree (exprOf t) ≡ t → Back c (node at k v (tcons t tnil))) → Follows Back (one Class.expression done) ts → Back c (node at k v ts)
+  lone : {at k : ℕ} {v : List FieldValue} {ts : Trees} → ((t : Tree) → exprTree (exprOf t) ≡ t → Back c (node at k v (tcons t tnil))) → Follows Back (one Class.expression done) ts → Back c (node at k v ts)
   unfolding again
   lone g (next e over) = g _ e
 
-  twin : {at k : ℕ} {v : List Value} {ts : Trees} → ((t u : Tree) → exprTree (exprOf t) ≡ t → exprTree (exprOf u) ≡ u → Back c (node at k v (tcons t (tcons u tnil)))) → Follows Back (one Class.expression (one Class.expression done)) ts → Back c (node at k v ts)
+  twin : {at k : ℕ} {v : List FieldValue} {ts : Trees} → ((t u : Tree) → exprTree (exprOf t) ≡ t → exprTree (exprOf u) ≡ u → Back c (node at k v (tcons t (tcons u tnil)))) → Follows Back (one Class.expression (one Class.expression done)) ts → Back c (node at k v ts)
   unfolding again
   twin g (next e (next f over)) = g _ _ e f
 
@@ -111,13 +111,13 @@ expr-kind (Expr.StructLiteral p n fs) = refl
 expr-kind (Expr.Binary p op l r) = refl
 expr-kind (Expr.Call p n es) = refl
 
-no-block : {t : Tree} → Back Class.expression t → (bs : Blocks) → addBlock t bs ≡ bs
+no-block : {t : Tree} → Back Class.expression t → (bs : BlockRecords) → addBlock t bs ≡ bs
 unfolding again stmtOf
 no-block {t = node at k v ts} e bs =
     let q : eqb k 5 ≡ false = rw (ap kindIn e) at (expr-kind (exprOf (node at k v ts))) in
     rw q
 
-a-block : {at k : ℕ} {v : List Value} {ts : Trees} → Back Class.block (node at k v ts) → (bs : Blocks) → addBlock (node at k v ts) bs ≡ andBlock at (stmtsOf ts) bs
+a-block : {at k : ℕ} {v : List FieldValue} {ts : Trees} → Back Class.block (node at k v ts) → (bs : BlockRecords) → addBlock (node at k v ts) bs ≡ andBlock at (stmtsOf ts) bs
 unfolding again stmtOf
 a-block {at} {k} {v} {ts} e bs = let q : 5 ≡ k = ap kindIn e in rw (← q)
 

@@ -8,7 +8,7 @@ use lib.Dec.{leb, eqb}
 use lib.ListN.{length, length-map}
 use borrow.Author.Tests.{leb-false, leb-true, eqb-true, eqb-false, eq-eqb, le-leb}
 use Rattle.definitions.specs.Ast.{Struct, Function}
-use Rattle.definitions.specs.Records.{pick, Value, Good, Tree, node, Trees, tnil, tcons, gather, itemsAt, kindIn}
+use Rattle.definitions.specs.Records.{pick, FieldValue, Good, Tree, node, Trees, tnil, tcons, gather, itemsAt, kindIn}
 use Rattle.definitions.specs.ContractSheet.{structOf, functionOf, countTrees, Counts, noneBefore, oneIf, andThis, Measured, overLimits, anyOf, over, limitTree, limitTrees}
 use Rattle.definitions.specs.All.{All, anil, acons}
 use Rattle.definitions.proofs.Results.{by-test}
@@ -72,11 +72,11 @@ room-for struct w e = w .structs e
 room-for function w e = w .functions e
 
 -- a record with its children, as the limits look at it
-abbrev pub measured : ℕ → List Value → Trees → ℕ → Counts → Measured
+abbrev pub measured : ℕ → List FieldValue → Trees → ℕ → Counts → Measured
 measured k v ts d n = record { kind = k; fields = v; children = countTrees ts; depth = d; before = n }
 
 -- one record that passed: it is not over, and its children passed
-pub tree-within : (at k : ℕ) (v : List Value) (ts : Trees) (d : ℕ) (n : Counts) → limitTree (node at k v ts) d n ≡ Good → Within (measured k v ts d n) × (limitTrees ts (suc d) noneBefore ≡ Good)
+pub tree-within : (at k : ℕ) (v : List FieldValue) (ts : Trees) (d : ℕ) (n : Counts) → limitTree (node at k v ts) d n ≡ Good → Within (measured k v ts d n) × (limitTrees ts (suc d) noneBefore ≡ Good)
 unfolding limitTree
 tree-within at k v ts d n e = by-test (over (measured k v ts d n)) (λ q. absurd (bad-good (rw q at e))) (λ q. (not-over (measured k v ts d n) q, rw q at e))
 
@@ -120,7 +120,7 @@ within {A} {k} f (tcons (node at i v ks) ts) d n T e h =
     counted-past k f t ts (countOf k n) _ (mostOf k) (room-for T (tree-within at i v ks d n (g .0) .0)) (count-next t n T) (λ l. within f ts d _ T (g .1) l) h
 
 -- and each of them is not over
-each-within : {A : Type 0} (P : A → Type 0) (j : ℕ) (f : Tree → A) → ((at : ℕ) (v : List Value) (ks : Trees) (r : Measured) → Within r → r .kind ≡ j → r .fields ≡ v → P (f (node at j v ks)))
+each-within : {A : Type 0} (P : A → Type 0) (j : ℕ) (f : Tree → A) → ((at : ℕ) (v : List FieldValue) (ks : Trees) (r : Measured) → Within r → r .kind ≡ j → r .fields ≡ v → P (f (node at j v ks)))
     → (ts : Trees) (d : ℕ) (n : Counts) → limitTrees ts d n ≡ Good → All P (gather j j f ts)
 unfolding limitTree
 each-within P j f p tnil d n e = anil

@@ -10,8 +10,8 @@ use borrow.Author.Tests.{leb-true, eqb-true}
 use Rattle.definitions.specs.Fields.{Bytes}
 use Rattle.definitions.specs.Ast.{Exprs, enil, econs, Param, Function}
 use Rattle.definitions.specs.Grammar.{Class, upTo, optional, number, nameAndType, Field, single, counted, Pattern, rows}
-use Rattle.definitions.specs.Records.{Item, Value, row, rowIn, rowFields, Good, Tree, node, Trees, tnil, tcons, readRecords, numAt, kindIn, gather}
-use Rattle.definitions.specs.ContractSheet.{storageOf, firstE, restE, optE, exprFrom, exprOf, exprsOf, Blocks, noBlock, andBlock, firstB, restB, optB, stmtFrom, stmtOf, stmtsOf, blocksOf, addBlock, paramOf, functionOf, contractOf, noneBefore, limitTrees, refusal4}
+use Rattle.definitions.specs.Records.{Item, FieldValue, row, rowIn, rowFields, Good, Tree, node, Trees, tnil, tcons, readRecords, numAt, kindIn, gather}
+use Rattle.definitions.specs.ContractSheet.{storageOf, firstE, restE, optE, exprFrom, exprOf, exprsOf, BlockRecords, noBlock, andBlock, firstB, restB, optB, stmtFrom, stmtOf, stmtsOf, blocksOf, addBlock, paramOf, functionOf, contractOf, noneBefore, limitTrees, refusal4}
 use Rattle.definitions.proofs.Sheets.Fits.{fitSmall, fitNone, fitSome, fitRaw, fitPair, FitItems, noItem, andItem, fitOne, fitGroup}
 use Rattle.definitions.specs.Fine.{Fine}
 use Rattle.definitions.proofs.Sheets.Passed.{picked, both-good}
@@ -22,20 +22,20 @@ use Rattle.definitions.proofs.Contracts.Bounds.{SmallExpr, SmallExprs, 
 use Rattle.definitions.proofs.Contracts.Limits.{storage, function, tree-within, within, structs-within, functions-within}
 
 -- fields of a row, by its kind
-abbrev Row : ℕ → List Value → Type 0
+abbrev Row : ℕ → List FieldValue → Type 0
 Row k v = Holds (rowFields (rowIn k rows)) v
 
-row-of : (k : ℕ) {c : Class} {fs : List Field} {p : Pattern} {v : List Value} → rowIn k rows ≡ row c fs p → Holds fs v → Row k v
+row-of : (k : ℕ) {c : Class} {fs : List Field} {p : Pattern} {v : List FieldValue} → rowIn k rows ≡ row c fs p → Holds fs v → Row k v
 unfolding rowFields
 row-of k r h = rw (r, rowFields) h
 
-int-low : (v : List Value) → Holds (single (number 8) ∷ []) v → numAt 0 v < 256 ^ 8
+int-low : (v : List FieldValue) → Holds (single (number 8) ∷ []) v → numAt 0 v < 256 ^ 8
 int-low _ (hcons (fitOne (fitRaw l)) hnil) = l
 
-name-low : (v : List Value) → Holds (single (upTo 65534) ∷ []) v → Id (numAt 0 v)
+name-low : (v : List FieldValue) → Holds (single (upTo 65534) ∷ []) v → Id (numAt 0 v)
 name-low _ (hcons (fitOne (fitSmall l m)) hnil) = omega arith
 
-at-kind : (j k : ℕ) (v : List Value) → eqb k j ≡ true → Row k v → Row j v
+at-kind : (j k : ℕ) (v : List FieldValue) → eqb k j ≡ true → Row k v → Row j v
 at-kind j k v q h = subst (λ (x : ℕ). Row x v) (eqb-true k j q) h
 
 -- expressions
@@ -51,7 +51,7 @@ opt-small : (es : Exprs) → SmallExprs es → SmallOpt (optE es)
 opt-small enil h = tt
 opt-small (econs e es) h = h .0
 
-from-small : (at k : ℕ) (v : List Value) (ts : Trees) (es : Exprs) → Row k v → SmallExprs es → SmallExpr (exprFrom at k v ts es)
+from-small : (at k : ℕ) (v : List FieldValue) (ts : Trees) (es : Exprs) → Row k v → SmallExprs es → SmallExpr (exprFrom at k v ts es)
 unfolding rowFields rowIn rows
 from-small at k v ts es r h =
     picked SmallExpr (eqb k 30) _ _ (λ q. int-low v (at-kind 30 k v q r)) (λ _. picked SmallExpr (eqb k 31) _ _ (λ _. tt) (λ _. picked SmallExpr (eqb k 32) _ _ (λ _. tt)
@@ -70,20 +70,20 @@ mutual
   exprs-small (rcons a r rs) = (expr-small r, exprs-small rs)
 
 -- statements
-abbrev SmallBlocks : Blocks → Type 0
+abbrev SmallBlocks : BlockRecords → Type 0
 SmallBlocks noBlock = Unit {0}
 SmallBlocks (andBlock p a as') = SmallStmts a × SmallBlocks as'
 
-first-arm : (a : Blocks) → SmallBlocks a → SmallStmts (firstB a)
+first-arm : (a : BlockRecords) → SmallBlocks a → SmallStmts (firstB a)
 first-arm noBlock h = tt
 first-arm (andBlock p a as') h = h .0
 
-else-arm : (a : Blocks) → SmallBlocks a → SmallElse (optB (restB a))
+else-arm : (a : BlockRecords) → SmallBlocks a → SmallElse (optB (restB a))
 else-arm noBlock h = tt
 else-arm (andBlock p a noBlock) h = tt
 else-arm (andBlock p a (andBlock q b as')) h = h .1 .0
 
-stmt-from : (at k : ℕ) (v : List Value) (es : Exprs) (a : Blocks) → Row k v → SmallExprs es → SmallBlocks a → SmallStmt (stmtFrom at k v es a)
+stmt-from : (at k : ℕ) (v : List FieldValue) (es : Exprs) (a : BlockRecords) → Row k v → SmallExprs es → SmallBlocks a → SmallStmt (stmtFrom at k v es a)
 unfolding rowFields rowIn rows
 stmt-from at k v es a r h g =
     let f : SmallExpr (firstE es) = first-small es h in
@@ -107,7 +107,7 @@ mutual
   arms-small (rnil m) = tt
   arms-small (rcons {ts = ts} a r rs) = arm-small r (blocksOf ts) (arms-small rs)
 
-  arm-small : {c : Class} {t : Tree} → Read c t → (a : Blocks) → SmallBlocks a → SmallBlocks (addBlock t a)
+  arm-small : {c : Class} {t : Tree} → Read c t → (a : BlockRecords) → SmallBlocks a → SmallBlocks (addBlock t a)
   arm-small (rnode {k = k} r h rs) a g = picked SmallBlocks (eqb k 5) _ _ (λ _. (stmts-small rs, g)) (λ _. g)
 
 -- functions and the Class.contract
@@ -121,7 +121,7 @@ pairs-low : {is : List Item} → FitItems nameAndType is → All (λ (p : Param)
 pairs-low noItem = anil
 pairs-low (andItem (fitPair a b) h) = acons b (pairs-low h)
 
-fn-row : {p : Pattern} (at : ℕ) (v : List Value) (ts : Trees) → Reads p ts → Holds (single (upTo 65534) ∷ single optional ∷ single (upTo 1) ∷ counted nameAndType ∷ []) v → FnSmall (functionOf (node at 4 v ts))
+fn-row : {p : Pattern} (at : ℕ) (v : List FieldValue) (ts : Trees) → Reads p ts → Holds (single (upTo 65534) ∷ single optional ∷ single (upTo 1) ∷ counted nameAndType ∷ []) v → FnSmall (functionOf (node at 4 v ts))
 unfolding functionOf
 fn-row at _ ts rs (hcons (fitOne (fitSmall l m)) (hcons (fitOne fitNone) (hcons (fitOne (fitSmall i j)) (hcons (fitGroup n g) hnil)))) =
     record { name = omega arith; ret = tt; params = pairs-low g; body = stmts-small rs }
@@ -147,7 +147,7 @@ join-fns anil q = anil
 join-fns (acons p ps) (acons q qs) = acons (record { name = p .name; ret = p .ret; params = p .params; count = q; body = p .body }) (join-fns ps qs)
 
 -- a Class.contract read from a sheet that passed 3 and 4
-node-small : {p : Pattern} (at k : ℕ) (v : List Value) (ts more : Trees) → Reads p ts → limitTrees ts 2 noneBefore ≡ Good → Small (contractOf (tcons (node at k v ts) more))
+node-small : {p : Pattern} (at k : ℕ) (v : List FieldValue) (ts more : Trees) → Reads p ts → limitTrees ts 2 noneBefore ≡ Good → Small (contractOf (tcons (node at k v ts) more))
 unfolding contractOf
 node-small at k v ts more r e = record {
   storage = omega (arith, within storageOf ts 2 noneBefore storage e (lit≤ tt));

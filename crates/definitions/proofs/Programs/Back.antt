@@ -10,7 +10,7 @@ use Rattle.definitions.specs.Ast.{BinOp}
 use Rattle.definitions.specs.Grammar.{Class, number, Field, done, irType, listed, optional, origin, rows, single, upTo}
 use Rattle.definitions.specs.InstrTable.{kindOf}
 use Rattle.definitions.specs.Ir.{BasicBlock, InstrNode, Instruction, IrFunction, IrProgram, Terminator}
-use Rattle.definitions.specs.ProgramSheet.{paramsAt, typesAt, blockOf, blockTree, firstOf, functionNameOf, functionNameTree, functionOf, functionTree, instrNodeOf, instrOf, instrTree, optTermTree, paramItem, programOf, programTree, termOf, valuesOf}
+use Rattle.definitions.specs.ProgramSheet.{irParamsAt, typesAt, blockOf, blockTree, firstOf, functionNameOf, functionNameTree, irFunctionOf, irFunctionTree, instrNodeOf, instrOf, instrTree, optTermTree, paramItem, programOf, programTree, termOf, valuesOf}
 use Rattle.definitions.specs.Records.{pick, writeValues, numAt, typeAt, Tree, Trees, gather, item, kindIn, node, opt, row, rowIn, small, tcons, tnil, treesOf, ty}
 use Rattle.definitions.proofs.Sheets.Trees.{placedTree, placedTrees}
 
@@ -121,7 +121,7 @@ block-back b =
     ap firstOf (gather-below 90 93 termOf instrTree (λ n. no-term (n .instr)) (b .instrs) _) ∙ term-back (b .terminator) in
     λ i. record { id = b .id; instrs = p i; terminator = q i }
 
-function-back : (f : IrFunction) → functionOf (functionTree f) ≡ f
+function-back : (f : IrFunction) → irFunctionOf (irFunctionTree f) ≡ f
 function-back f =
     let p : gather 53 53 blockOf (treesOf blockTree (f .blocks) tnil) ≡ f .blocks =
     gather-all 53 53 blockOf blockTree (λ b. refl) (λ b. refl) block-back (f .blocks) tnil ∙ append-nil _ in
@@ -131,11 +131,11 @@ function-back f =
 
 pub program-back : (p : IrProgram) → programOf (tcons (programTree p) tnil) ≡ p
 program-back p =
-    let fs : gather 51 51 functionOf (treesOf functionTree (p .functions) (treesOf functionNameTree (p .functionNames) tnil)) ≡ p .functions =
-    gather-all 51 51 functionOf functionTree (λ f. refl) (λ f. refl) function-back (p .functions) _
-    ∙ ap (λ (x : List IrFunction). p .functions ++ x) (gather-above 51 51 functionOf functionNameTree (λ n. refl) (λ n. refl) (p .functionNames) tnil) ∙ append-nil _ in
-    let ns : gather 52 52 functionNameOf (treesOf functionTree (p .functions) (treesOf functionNameTree (p .functionNames) tnil)) ≡ p .functionNames =
-    gather-below 52 52 functionNameOf functionTree (λ f. refl) (p .functions) _
+    let fs : gather 51 51 irFunctionOf (treesOf irFunctionTree (p .functions) (treesOf functionNameTree (p .functionNames) tnil)) ≡ p .functions =
+    gather-all 51 51 irFunctionOf irFunctionTree (λ f. refl) (λ f. refl) function-back (p .functions) _
+    ∙ ap (λ (x : List IrFunction). p .functions ++ x) (gather-above 51 51 irFunctionOf functionNameTree (λ n. refl) (λ n. refl) (p .functionNames) tnil) ∙ append-nil _ in
+    let ns : gather 52 52 functionNameOf (treesOf irFunctionTree (p .functions) (treesOf functionNameTree (p .functionNames) tnil)) ≡ p .functionNames =
+    gather-below 52 52 functionNameOf irFunctionTree (λ f. refl) (p .functions) _
     ∙ gather-all 52 52 functionNameOf functionNameTree (λ n. refl) (λ n. refl) (λ n. refl) (p .functionNames) tnil ∙ append-nil _ in
     λ i. record { functions = fs i; functionNames = ns i }
 
@@ -162,13 +162,13 @@ block-forget : (at : ℕ) (t : Tree) → blockOf (placedTree at t) ≡ blockOf t
 unfolding placedTree
 block-forget at (node p k vs ts) = λ i. record { id = numAt 0 vs; instrs = forget 60 81 instrNodeOf instr-forget (at + 6 + length (writeValues vs)) ts i; terminator = firstOf (forget 90 93 termOf term-forget (at + 6 + length (writeValues vs)) ts i) }
 
-function-forget : (at : ℕ) (t : Tree) → functionOf (placedTree at t) ≡ functionOf t
+function-forget : (at : ℕ) (t : Tree) → irFunctionOf (placedTree at t) ≡ irFunctionOf t
 unfolding placedTree
-function-forget at (node p k vs ts) = λ i. record { id = numAt 0 vs; name = numAt 1 vs; params = paramsAt 3 vs; retTy = typeAt 2 vs; blocks = forget 53 53 blockOf block-forget (at + 6 + length (writeValues vs)) ts i; locals = typesAt 4 vs }
+function-forget at (node p k vs ts) = λ i. record { id = numAt 0 vs; name = numAt 1 vs; params = irParamsAt 3 vs; retTy = typeAt 2 vs; blocks = forget 53 53 blockOf block-forget (at + 6 + length (writeValues vs)) ts i; locals = typesAt 4 vs }
 
 program-forget : (at : ℕ) (t : Tree) → programOf (tcons (placedTree at t) tnil) ≡ programOf (tcons t tnil)
 unfolding placedTree
-program-forget at (node p k vs ts) = λ i. record { functions = forget 51 51 functionOf function-forget (at + 6 + length (writeValues vs)) ts i; functionNames = forget 52 52 functionNameOf name-forget (at + 6 + length (writeValues vs)) ts i }
+program-forget at (node p k vs ts) = λ i. record { functions = forget 51 51 irFunctionOf function-forget (at + 6 + length (writeValues vs)) ts i; functionNames = forget 52 52 functionNameOf name-forget (at + 6 + length (writeValues vs)) ts i }
 
 pub placed-back : (at : ℕ) (p : IrProgram) → programOf (tcons (placedTree at (programTree p)) tnil) ≡ p
 placed-back at p = program-forget at (programTree p) ∙ program-back p

@@ -11,8 +11,8 @@ use Rattle.definitions.specs.Ast.{Contract, Function}
 use Rattle.definitions.specs.Fields.{bytes}
 use Rattle.definitions.specs.Ir.{BasicBlock, InstrNode, Instruction, IrFunction, IrProgram, IrType, Terminator, find, localRead, localWritten, operands}
 use Rattle.definitions.specs.Lower.{functionNames, lowerContract, lowerFunction, lowerFunctions, setName}
-use Rattle.definitions.specs.ProgramSheet.{blockTree, functionNameTree, functionTree, instrTree, optTermTree, paramItem, writeProgram}
-use Rattle.definitions.specs.Records.{Item, Tree, Trees, Value, group, node, tnil, treesOf, writeItem, writeItems, writeTree, writeTrees, writeValue, writeValues}
+use Rattle.definitions.specs.ProgramSheet.{blockTree, functionNameTree, irFunctionTree, instrTree, optTermTree, paramItem, writeProgram}
+use Rattle.definitions.specs.Records.{Item, Tree, Trees, FieldValue, group, node, tnil, treesOf, writeItem, writeItems, writeTree, writeTrees, writeValue, writeValues}
 use Rattle.definitions.specs.Result.{ok}
 use Rattle.definitions.specs.Run.{termReads}
 use Rattle.definitions.specs.Verify.{blockIds}
@@ -45,7 +45,7 @@ results-few (n ∷ ns) = go (n .result) (results-few ns)
     go none h = omega arith
     go (some v) h = omega arith
 
-node-length : (at k : ℕ) (vs : List Value) (ts : Trees) → length (writeTree (node at k vs ts)) ≡ 6 + (length (writeValues vs) + length (writeTrees ts))
+node-length : (at k : ℕ) (vs : List FieldValue) (ts : Trees) → length (writeTree (node at k vs ts)) ≡ 6 + (length (writeValues vs) + length (writeTrees ts))
 unfolding writeTree
 node-length at k vs ts = wrap-long k (writeValues vs ++ writeTrees ts) ∙ ap (λ (x : ℕ). 6 + x) (length-append (writeValues vs) (writeTrees ts))
 
@@ -72,17 +72,17 @@ params-long (p ∷ ps) = simp length-append (omega (arith, params-long ps))
 abbrev fnWeight : IrFunction → ℕ
 fnWeight g = length (g .params) + length (defs (g .blocks))
 
-values-long : (a b c : Value) (is : List Item) (vs : List Value) (n : ℕ) → n ≤ length (writeItems is) → n ≤ length (writeValues (a ∷ b ∷ c ∷ group is ∷ vs))
+values-long : (a b c : FieldValue) (is : List Item) (vs : List FieldValue) (n : ℕ) → n ≤ length (writeItems is) → n ≤ length (writeValues (a ∷ b ∷ c ∷ group is ∷ vs))
 unfolding writeValues writeValue
 values-long a b c is vs n h = simp length-append (omega arith)
 
-node-weighs : (at k : ℕ) (vs : List Value) (ts : Trees) (m n : ℕ) → m ≤ length (writeValues vs) → n ≤ length (writeTrees ts) → m + n ≤ length (writeTree (node at k vs ts))
+node-weighs : (at k : ℕ) (vs : List FieldValue) (ts : Trees) (m n : ℕ) → m ≤ length (writeValues vs) → n ≤ length (writeTrees ts) → m + n ≤ length (writeTree (node at k vs ts))
 node-weighs at k vs ts m n g h = omega (arith, node-length at k vs ts)
 
 blocks-long : (bs : List BasicBlock) → length (defs bs) ≤ length (writeTrees (treesOf blockTree bs tnil))
 blocks-long bs = omega (arith, defs-sum bs, trees-length blockTree blockWeight block-length bs tnil)
 
-fn-length : (g : IrFunction) → fnWeight g ≤ length (writeTree (functionTree g))
+fn-length : (g : IrFunction) → fnWeight g ≤ length (writeTree (irFunctionTree g))
 fn-length g = node-weighs 0 51 _ _ (length (g .params)) (length (defs (g .blocks))) (values-long _ _ _ (map paramItem (g .params)) _ (length (g .params)) (params-long (g .params))) (blocks-long (g .blocks))
 
 -- every function of a program is at most as long as its sheet
@@ -92,7 +92,7 @@ all-below w n (a ∷ l) h = let k : w a ≤ n = omega arith in acons k (all-belo
 
 program-length : (p : IrProgram) → sum fnWeight (p .functions) ≤ length (writeProgram p)
 unfolding writeProgram
-program-length p = rw node-length (omega (arith, trees-length functionTree fnWeight fn-length (p .functions) (treesOf functionNameTree (p .functionNames) tnil)))
+program-length p = rw node-length (omega (arith, trees-length irFunctionTree fnWeight fn-length (p .functions) (treesOf functionNameTree (p .functionNames) tnil)))
 
 -- THE NUMBERS OF A FUNCTION
 all-ids : (n : ℕ) (l : List ℕ) → ((v : ℕ) → In v l → v < 65535) → All Id l

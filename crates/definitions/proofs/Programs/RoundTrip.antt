@@ -9,7 +9,7 @@ use lib.Dec.{lit<}
 use lib.ListN.{length, length-map}
 use Rattle.definitions.specs.Grammar.{number, Class, Entry, Pattern, done, irType, listed, many, one, optional, origin, perhaps, rows, single, upTo, valueAndType}
 use Rattle.definitions.specs.Ir.{BasicBlock, InstrNode, Instruction, IrFunction, IrProgram, IrType, Terminator}
-use Rattle.definitions.specs.ProgramSheet.{blockTree, functionNameTree, functionTree, instrTree, noOrigin, optTermTree, paramItem, programOf, programTree, readProgram, refusal40, valuesOf, writeProgram}
+use Rattle.definitions.specs.ProgramSheet.{blockTree, functionNameTree, irFunctionTree, instrTree, noOrigin, optTermTree, paramItem, programOf, programTree, readProgram, refusal40, valuesOf, writeProgram}
 use Rattle.definitions.specs.Records.{Good, Item, Tree, Trees, after, checkRecords, item, left, mayEnd, opt, readRecords, rest, rowIn, sizeOf, small, tcons, tnil, treesOf, ty, word, writeTree}
 use Rattle.definitions.proofs.Sheets.Fits.{FitItem, fitSmall, fitNone, fitSome, fitRaw, fitType, fitParam, FitItems, noItem, andItem, FitValue, fitOne, fitGroup, FitValues, noValue, andValue, lastRest, FitTree, fitNode, FitTrees, noTree, andTree}
 use Rattle.definitions.specs.All.{All, anil, acons}
@@ -90,7 +90,7 @@ block-fits b h =
     let t : FitTrees inBlock (optTermTree (b .terminator)) = term-fits (b .terminator) (h .terminator) in
     fitNode refl (lit< tt) (andValue (idV (h .id)) noValue) (trees-fit Class.instruction instrTree inBlock inBlock refl refl node-fits (h .instrs) t t)
 
-function-fits : (f : IrFunction) → FitsFunction f → FitTree Class.irFunction (functionTree f)
+function-fits : (f : IrFunction) → FitsFunction f → FitTree Class.irFunction (irFunctionTree f)
 unfolding after mayEnd rows rowIn
 function-fits f h =
     let ps : FitItems valueAndType (map paramItem (f .params)) = all-items valueAndType paramItem (λ p k. fitParam (k .0) (k .1)) (h .params) in
@@ -112,7 +112,7 @@ program-fits p h =
     let ns : FitTrees (many Class.irFunction (many Class.functionName done)) (treesOf functionNameTree (p .functionNames) tnil) =
     trees-fit Class.functionName functionNameTree (many Class.irFunction (many Class.functionName done)) (many Class.functionName done) refl refl naming-fits (h .functionNames) (noTree refl) (noTree refl) in
     andTree refl (fitNode refl (lit< tt) noValue
-    (trees-fit Class.irFunction functionTree (many Class.irFunction (many Class.functionName done)) (many Class.irFunction (many Class.functionName done)) refl refl function-fits (h .functions) ns ns)) (noTree refl)
+    (trees-fit Class.irFunction irFunctionTree (many Class.irFunction (many Class.functionName done)) (many Class.irFunction (many Class.functionName done)) refl refl function-fits (h .functions) ns ns)) (noTree refl)
 
 -- FORM AND ROUND TRIP
 sheet-ok : (p : IrProgram) → Fits p → TreesOk (suc (length (writeProgram p))) (one Class.program done) (tcons (placedTree 0 (programTree p)) tnil) (writeProgram p) 0 (length (writeProgram p))

@@ -9,7 +9,7 @@ use lib.ListN.{length}
 use Rattle.definitions.specs.Grammar.{Class, upTo, irType, valueAndType, single, counted, Field, Pattern, done, one, perhaps, many, origin, rows}
 use Rattle.definitions.specs.Ir.{Instruction, Terminator}
 use Rattle.definitions.specs.Records.{Item, small, ty, numberOf, typeOf, Tree, node, Trees, tnil, tcons, writeRecord, writeTree, writeTrees, writeValues, readRecords, kindIn, gather, treesOf}
-use Rattle.definitions.specs.ProgramSheet.{noOrigin, instrTree, termTree, optTermTree, blockTree, paramItem, functionTree, functionNameTree, programTree, writeProgram, instrNodeOf, termOf, firstOf, blockOf, functionOf, functionNameOf, programOf, readProgram, refusal40, NothingOverlookedInPrograms}
+use Rattle.definitions.specs.ProgramSheet.{noOrigin, instrTree, termTree, optTermTree, blockTree, paramItem, irFunctionTree, functionNameTree, programTree, writeProgram, instrNodeOf, termOf, firstOf, blockOf, irFunctionOf, functionNameOf, programOf, readProgram, refusal40, NothingOverlookedInPrograms}
 use Rattle.definitions.proofs.Sheets.Fits.{FitItems, fitRaw, fitOne}
 use Rattle.definitions.proofs.Sheets.Reads.{hcons}
 use Rattle.definitions.proofs.Sheets.Lines.{OfRows, Given, by-lines, Follows, over, next, skip, take, end, more}
@@ -38,7 +38,7 @@ mutual
 -- THE AIM: the tree of what is read from a record of a class is that record without its places
 unfoldable again : Class → Tree → Tree
 again Class.program t = programTree (programOf (tcons t tnil))
-again Class.irFunction t = functionTree (functionOf t)
+again Class.irFunction t = irFunctionTree (irFunctionOf t)
 again Class.functionName t = functionNameTree (functionNameOf t)
 again Class.basicBlock t = blockTree (blockOf t)
 again Class.instruction t = instrTree (instrNodeOf t)
@@ -151,7 +151,7 @@ function-row : Remade Class.irFunction 51 (single (upTo 65534) ∷ single (upTo 
 unfolding again bareTree
 function-row at v ts h f = shaped (λ w. Back Class.irFunction (node at 51 w ts)) h (λ i n t ps p ls l. rw (params-back p, types-back l, blocks-back f))
 
-names-back : {ts : Trees} → Follows Back (many Class.functionName done) ts → (gather 51 51 functionOf ts ≡ []) × (treesOf functionNameTree (gather 52 52 functionNameOf ts) tnil ≡ bareTrees ts)
+names-back : {ts : Trees} → Follows Back (many Class.functionName done) ts → (gather 51 51 irFunctionOf ts ≡ []) × (treesOf functionNameTree (gather 52 52 functionNameOf ts) tnil ≡ bareTrees ts)
 unfolding again bareTree
 names-back (end over) = (refl, refl)
 names-back (more {t = t} e r) =
@@ -160,7 +160,7 @@ names-back (more {t = t} e r) =
     (rw k (b .0), rw k (ap₂ tcons e (b .1)))
 
 functions-back : {ts : Trees} → Follows Back (many Class.irFunction (many Class.functionName done)) ts
-    → treesOf functionTree (gather 51 51 functionOf ts) (treesOf functionNameTree (gather 52 52 functionNameOf ts) tnil) ≡ bareTrees ts
+    → treesOf irFunctionTree (gather 51 51 irFunctionOf ts) (treesOf functionNameTree (gather 52 52 functionNameOf ts) tnil) ≡ bareTrees ts
 unfolding again bareTree
 functions-back (end r) = let b = names-back r in rw (b .0) (b .1)
 functions-back (more {t = t} e r) = rw (kind-is Class.irFunction t e) (ap₂ tcons e (functions-back r))

@@ -8,7 +8,7 @@ use lib.ListN.{length}
 use Rattle.definitions.specs.Fields.{Bytes}
 use Rattle.definitions.specs.Ir.{IrType}
 use Rattle.definitions.specs.Grammar.{Class, Entry, upTo, optional, number, irType, valueAndType, nameAndType, Field, single, counted, listed, Pattern, rows}
-use Rattle.definitions.specs.Records.{Item, small, opt, word, ty, param, pair, Value, item, group, rest, Tree, node, Trees, writeTrees, readRecords, Good, checkRecords}
+use Rattle.definitions.specs.Records.{Item, small, opt, word, ty, param, pair, FieldValue, item, group, rest, Tree, node, Trees, writeTrees, readRecords, Good, checkRecords}
 use Rattle.definitions.proofs.Fields.{whole-back}
 use Rattle.definitions.proofs.Sheets.Fits.{FitItem, fitSmall, fitNone, fitSome, fitRaw, fitType, fitParam, fitPair, FitItems, noItem, andItem, fitOne, fitGroup}
 use Rattle.definitions.proofs.Sheets.Passed.{fine}
@@ -34,13 +34,13 @@ plain P (fitType {t} l) g = g t
 plain P (fitParam {v} {t} l m) g = g v t
 plain P (fitPair {a} {b} l m) g = g a b
 
-abbrev pub Shaped : List Field → (List Value → Type 0) → Type 0
+abbrev pub Shaped : List Field → (List FieldValue → Type 0) → Type 0
 Shaped [] P = P []
 Shaped (single e ∷ fs) P = Plain e (λ i. Shaped fs (λ vs. P (item i ∷ vs)))
 Shaped (counted e ∷ fs) P = (is : List Item) → FitItems e is → Shaped fs (λ vs. P (group is ∷ vs))
 Shaped (listed e ∷ fs) P = (is : List Item) → FitItems e is → Shaped fs (λ vs. P (rest is ∷ vs))
 
-pub shaped : (P : List Value → Type 0) {fs : List Field} {vs : List Value} → Holds fs vs → Shaped fs P → P vs
+pub shaped : (P : List FieldValue → Type 0) {fs : List Field} {vs : List FieldValue} → Holds fs vs → Shaped fs P → P vs
 shaped P hnil g = g
 shaped P (hcons {fs = fs} (fitOne {i = i} f) h) g = shaped (λ vs. P (item i ∷ vs)) h (plain (λ j. Shaped fs (λ vs. P (item j ∷ vs))) f g)
 shaped P (hcons (fitGroup {is = is} l f) h) g = shaped (λ vs. P (group is ∷ vs)) h (g is f)
@@ -54,7 +54,7 @@ items-back e f g h (andItem i is) = ap₂ _∷_ (plain (λ i. f (g i) ≡ i) i h
 -- RECORDS: Q of every record that was read, given a step for each row
 module _ (Q : Class → Tree → Type 0) where
   abbrev pub Step : Class → ℕ → List Field → Pattern → Type 0
-  Step c k fs p = (at : ℕ) (v : List Value) (ts : Trees) → Holds fs v → Follows Q p ts → Q c (node at k v ts)
+  Step c k fs p = (at : ℕ) (v : List FieldValue) (ts : Trees) → Holds fs v → Follows Q p ts → Q c (node at k v ts)
 
   module _ (step : (c : Class) → OfRows Step c rows) where
     mutual

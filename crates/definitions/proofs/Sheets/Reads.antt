@@ -12,7 +12,7 @@ use Rattle.definitions.specs.Grammar.{Class, number}
 use Rattle.definitions.specs.Fields.{Bytes, le}
 use Rattle.definitions.specs.Grammar.{Entry, Field, Pattern, counted, irType, listed, nameAndType, optional, rows, single, upTo, valueAndType}
 use Rattle.definitions.specs.Ir.{IrType, nameOf}
-use Rattle.definitions.specs.Records.{after, left, mayEnd, Item, Tree, Trees, Value, fieldEnd, node, okField, okItem, okItems, okType, opt, optFrom, pastAll, pick, readItem, readItems, readRecords, readValue, readValues, rest, row, rowIn, sizeOf, tcons, tnil, typeFrom}
+use Rattle.definitions.specs.Records.{after, left, mayEnd, Item, Tree, Trees, FieldValue, fieldEnd, node, okField, okItem, okItems, okType, opt, optFrom, pastAll, pick, readItem, readItems, readRecords, readValue, readValues, rest, row, rowIn, sizeOf, tcons, tnil, typeFrom}
 use Rattle.definitions.proofs.Fields.{le-low}
 use Rattle.definitions.proofs.Sheets.Fits.{FitItem, fitSmall, fitNone, fitSome, fitRaw, fitType, fitParam, fitPair, FitItems, noItem, andItem, FitValue, fitOne, fitGroup}
 use Rattle.definitions.specs.Fine.{Fine, ends, goes}
@@ -65,12 +65,12 @@ unfolding readItems
 items-count e zero s at = refl
 items-count e (suc n) s at = ap suc (items-count e n s (at + sizeOf e))
 
-pub data Holds : List Field → List Value → Type 0 where
+pub data Holds : List Field → List FieldValue → Type 0 where
   hnil : Holds [] []
-  hcons : {f : Field} {v : Value} {fs : List Field} {vs : List Value} → FitValue f v → Holds fs vs → Holds (f ∷ fs) (v ∷ vs)
-  hrest : {e : Entry} {is : List Item} {fs : List Field} {vs : List Value} → FitItems e is → Holds fs vs → Holds (listed e ∷ fs) (rest is ∷ vs)
+  hcons : {f : Field} {v : FieldValue} {fs : List Field} {vs : List FieldValue} → FitValue f v → Holds fs vs → Holds (f ∷ fs) (v ∷ vs)
+  hrest : {e : Entry} {is : List Item} {fs : List Field} {vs : List FieldValue} → FitItems e is → Holds fs vs → Holds (listed e ∷ fs) (rest is ∷ vs)
 
-value-holds : (f : Field) {fs : List Field} {vs : List Value} (s : List ℕ) (stop at : ℕ) → Bytes s → okField f s stop at ≡ true → Holds fs vs → Holds (f ∷ fs) (readValue f s stop at ∷ vs)
+value-holds : (f : Field) {fs : List Field} {vs : List FieldValue} (s : List ℕ) (stop at : ℕ) → Bytes s → okField f s stop at ≡ true → Holds fs vs → Holds (f ∷ fs) (readValue f s stop at ∷ vs)
 unfolding okField readValue
 value-holds (single e) s stop at h o r = hcons (fitOne (item-fits e s at h (both-true (leb (sizeOf e) (stop - at)) _ o .1))) r
 value-holds (counted e) s stop at h o r =
@@ -86,7 +86,7 @@ values-hold (f ∷ fs) s stop at h e = let a = first-past f fs s stop at e in va
 -- a tree of a class, and trees that follow a pattern: every record has a row, its fields hold what the row asks
 mutual
   pub data Read : Class → Tree → Type 0 where
-    rnode : {c : Class} {at k : ℕ} {fs : List Field} {p : Pattern} {vs : List Value} {ts : Trees} → rowIn k rows ≡ row c fs p → Holds fs vs → Reads p ts → Read c (node at k vs ts)
+    rnode : {c : Class} {at k : ℕ} {fs : List Field} {p : Pattern} {vs : List FieldValue} {ts : Trees} → rowIn k rows ≡ row c fs p → Holds fs vs → Reads p ts → Read c (node at k vs ts)
 
   pub data Reads : Pattern → Trees → Type 0 where
     rnil : {p : Pattern} → mayEnd p ≡ true → Reads p tnil

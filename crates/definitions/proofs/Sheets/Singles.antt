@@ -9,13 +9,13 @@ use lib.Dec.{leb}
 use borrow.Author.Tests.{leb-true}
 use Rattle.definitions.specs.Fields.{le}
 use Rattle.definitions.specs.Grammar.{Class, Entry, Field, single, counted, Pattern, origin, originWidth}
-use Rattle.definitions.specs.Records.{Value, item, sizeOf, okItem, okItems, readItem, fieldEnd, okField, readValue, pastAll, fieldsEnd, readValues}
+use Rattle.definitions.specs.Records.{FieldValue, item, sizeOf, okItem, okItems, readItem, fieldEnd, okField, readValue, pastAll, fieldsEnd, readValues}
 use Rattle.definitions.specs.Fine.{Head, ownStart}
 use Rattle.definitions.specs.ProgramSheet.{ownOf}
 use Rattle.definitions.proofs.Sheets.Passed.{both-true, counted-ok, first-past, all-past}
 
 -- the entries from `at + off` on, their values, where they end, and that each is valid
-unfoldable pub itemsFrom : List Entry → List ℕ → ℕ → ℕ → List Value
+unfoldable pub itemsFrom : List Entry → List ℕ → ℕ → ℕ → List FieldValue
 itemsFrom [] s at off = []
 itemsFrom (e ∷ es) s at off = item (readItem e s (at + off)) ∷ itemsFrom es s at (off + sizeOf e)
 
@@ -43,7 +43,7 @@ singles (e ∷ es) fs s stop at off {b} h l =
     let f : sizeOf e ≤ stop - (at + off) = leb-true _ _ (o .0) in
     let w : at + off + sizeOf e ≡ at + (off + sizeOf e) = omega arith in
     let i : Singles es fs s stop at (off + sizeOf e) b = singles es fs s stop at (off + sizeOf e) (rw w at (p .1)) (omega arith) in
-    record { values = rw w (ap (λ (l : List Value). item (readItem e s (at + off)) ∷ l) (i .values)); more = i .more; valid = (o .1, i .valid); fits = i .fits }
+    record { values = rw w (ap (λ (l : List FieldValue). item (readItem e s (at + off)) ∷ l) (i .values)); more = i .more; valid = (o .1, i .valid); fits = i .fits }
 
 -- the same of a record that passed, whose children start at b
 pub record Starts (es : List Entry) (fs : List Field) (s : List ℕ) (at b stop : ℕ) : Type 0 where

@@ -9,7 +9,7 @@ use lib.ListN.{length, length-append}
 use borrow.Author.Tests.{le-leb, ne-eqb, eq-eqb}
 use Rattle.definitions.specs.Fields.{bytes, le}
 use Rattle.definitions.specs.Grammar.{Class, Field, Pattern, rows}
-use Rattle.definitions.specs.Records.{Good, Tree, Trees, Value, after, andThen, checkRest, fieldsEnd, left, node, pastAll, readNode, recordsFrom, row, rowFields, rowIn, startAt, startIf, startRow, starts, tcons, tnil, treesFrom, writeRecord, writeTree, writeTrees, writeValues}
+use Rattle.definitions.specs.Records.{Good, Tree, Trees, FieldValue, after, andThen, checkRest, fieldsEnd, left, node, pastAll, readNode, recordsFrom, row, rowFields, rowIn, startAt, startIf, startRow, starts, tcons, tnil, treesFrom, writeRecord, writeTree, writeTrees, writeValues}
 use Rattle.definitions.proofs.Sheets.Fits.{FitTree, fitNode, FitTrees, noTree, andTree}
 use Rattle.definitions.proofs.Fields.{Stands, Both, split, le-bytes}
 use Rattle.definitions.proofs.Sheets.Passed.{all-past}
@@ -48,7 +48,7 @@ head-law k body {s} {at} l m h =
     record { size = le-bytes 4 m (b .front); kind = le-bytes 2 l (c .front); inside = rw e at (c .back) }
 
 -- the step at one record, over plain places: v is the length of its fields, w of its children
-module _ (k : ℕ) (q : Pattern) (at n v b : ℕ) {c : Class} {fs : List Field} {vs : List Value} {p : Pattern} {ts : Trees} {q' : Pattern} {us : Trees} {s : List ℕ} {end : ℕ}
+module _ (k : ℕ) (q : Pattern) (at n v b : ℕ) {c : Class} {fs : List Field} {vs : List FieldValue} {p : Pattern} {ts : Trees} {q' : Pattern} {us : Trees} {s : List ℕ} {end : ℕ}
     (r : rowIn k rows ≡ row c fs p) (a : after q c ≡ left q') (size : le 4 s at ≡ 6 + b) (kind : le 2 s (at + 4) ≡ k)
     (vals : ValuesOk fs vs s (at + (6 + b)) (at + 6)) (v-is : length (writeValues vs) ≡ v) (fits : at + (6 + b) ≤ end)
     (inner : TreesOk n p ts s (at + 6 + v) (at + (6 + b))) (next : TreesOk n q' us s (at + (6 + b)) end) where

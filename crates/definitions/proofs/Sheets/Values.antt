@@ -10,18 +10,18 @@ use lib.ListN.{length, length-append}
 use borrow.Author.Tests.{le-leb}
 use Rattle.definitions.specs.Fields.{bytes, le}
 use Rattle.definitions.specs.Grammar.{Field, listed}
-use Rattle.definitions.specs.Records.{Item, Trees, Value, fieldEnd, group, item, okField, past, pastAll, readValue, readValues, rest, sizeOf, writeItem, writeItems, writeTrees, writeValue, writeValues}
+use Rattle.definitions.specs.Records.{Item, Trees, FieldValue, fieldEnd, group, item, okField, past, pastAll, readValue, readValues, rest, sizeOf, writeItem, writeItems, writeTrees, writeValue, writeValues}
 use Rattle.definitions.proofs.Sheets.Fits.{FitValue, fitOne, fitGroup, FitValues, noValue, andValue, lastRest}
 use Rattle.definitions.proofs.Fields.{Stands, Both, split, le-bytes}
 use Rattle.definitions.proofs.Sheets.Passed.{past-on}
 use Rattle.definitions.proofs.Sheets.Items.{ItemOk, item-law, ItemsOk, items-law}
 
-pub record ValueOk (f : Field) (v : Value) (s : List ℕ) (stop at : ℕ) : Type 0 where
+pub record ValueOk (f : Field) (v : FieldValue) (s : List ℕ) (stop at : ℕ) : Type 0 where
   pub ok : okField f s stop at ≡ true
   pub end : fieldEnd f s stop at ≡ at + length (writeValue v)
   pub is : readValue f s stop at ≡ v
 
-value-law : {f : Field} {v : Value} {s : List ℕ} {stop at : ℕ} → FitValue f v → Stands s at (writeValue v) → at + length (writeValue v) ≤ stop → ValueOk f v s stop at
+value-law : {f : Field} {v : FieldValue} {s : List ℕ} {stop at : ℕ} → FitValue f v → Stands s at (writeValue v) → at + length (writeValue v) ≤ stop → ValueOk f v s stop at
 unfolding writeValue okField fieldEnd readValue bytes
 value-law {s = s} {stop = stop} {at = at} (fitOne {e} {i} g) h l =
     let o : ItemOk e i s at = item-law g h in
@@ -38,11 +38,11 @@ value-law {s = s} {stop = stop} {at = at} (fitGroup {e} {is} k g) h l =
       is = rw q (ap group (o .is));
     }
 
-pub record ValuesOk (fs : List Field) (vs : List Value) (s : List ℕ) (stop at : ℕ) : Type 0 where
+pub record ValuesOk (fs : List Field) (vs : List FieldValue) (s : List ℕ) (stop at : ℕ) : Type 0 where
   pub past : pastAll fs s stop at ≡ some (at + length (writeValues vs))
   pub is : readValues fs s stop at ≡ vs
 
-pub values-law : {fs : List Field} {vs : List Value} {ts : Trees} {s : List ℕ} {stop at : ℕ} → FitValues fs vs ts → Stands s at (writeValues vs) → at + length (writeValues vs) + length (writeTrees ts) ≡ stop → ValuesOk fs vs s stop at
+pub values-law : {fs : List Field} {vs : List FieldValue} {ts : Trees} {s : List ℕ} {stop at : ℕ} → FitValues fs vs ts → Stands s at (writeValues vs) → at + length (writeValues vs) + length (writeTrees ts) ≡ stop → ValuesOk fs vs s stop at
 unfolding writeValues pastAll readValues writeValue past okField fieldEnd readValue writeTrees
 values-law {s = s} {stop = stop} {at = at} noValue h l = record { past = ap some (omega arith); is = refl }
 values-law {s = s} {stop = stop} {at = at} (andValue {f} {v} {fs} {vs} {ts} g r) h l =

@@ -10,7 +10,7 @@ use borrow.Author.Tests.{ltb-true}
 use Rattle.definitions.specs.All.{All, anil, acons}
 use Rattle.definitions.specs.Ast.{BinOp, Contract, Function, Param, Expr, Exprs, OptExpr, OptStmts, Stmt, Stmts, absent, econs, elseDo, enil, noElse, present, scons, snil}
 use Rattle.definitions.specs.Ir.{Instruction, IrFunction, IrType, Terminator, binaryType, resultType, unlessVoid}
-use Rattle.definitions.specs.Lower.{Callee, FnCtx, Lowered, Lowering, LoweringError, Scope, Value, callee, contextFn, count, currentBlockTerminated, defined, fieldPosition, forHeader, forStep, freshBlock, freshLocal, freshValue, inScope, initLocal, irFunction, lookupLocal, lowerArgs, lowerBody, lowerCall, lowerElse, lowerExpr, lowerExprValue, lowerFunction, lowerParams, lowerReturn, lowerStmt, lowerStmts, merkleProofFn, needValue, newCtx, parseIrType, popped, poseidonFn, pushInstr, pushValue, resultValue, setScopes, setTerminator, storageNamed, structNamed, structOf, switchTo, terminateIfOpen, threeBlocks, twoOf, unlessTerminated, userFn, withBlock, withLocal}
+use Rattle.definitions.specs.Lower.{Callee, FnCtx, Lowered, Lowering, LoweringError, Scope, Value, callee, contextFn, count, currentBlockTerminated, defined, fieldPosition, forHeader, forStep, freshBlock, freshLocal, freshValue, inScope, initLocal, irFunction, lookupLocal, lowerArgs, lowerBody, lowerCall, lowerElse, lowerExpr, lowerExprValue, lowerFunction, lowerParams, lowerReturn, lowerStmt, lowerStmts, merkleProofFn, needValue, newCtx, parseIrType, popped, poseidonFn, pushInstr, pushValue, resultValue, setScopes, setTerminator, storageNamed, structNamed, structNameOf, switchTo, terminateIfOpen, threeBlocks, twoOf, unlessTerminated, userFn, withBlock, withLocal}
 use Rattle.definitions.specs.Names.{byName}
 use Rattle.definitions.specs.Result.{_>>=_, err, ok, okOrElse}
 use Rattle.definitions.specs.Sema.{functionNamed, returnType}
@@ -170,7 +170,7 @@ module _ (K : Contract) (S : Type 0) (J : Spot) (keeps : Keeps K S J) where
     expr-keeps (Expr.MappingRead p n x) sm c sc I = bad LoweringError.MappingRead
     expr-keeps (Expr.FieldAccess p f x) sm c sc I =
         bind _ (value-of (expr-keeps x sm c sc I)) λ q k.
-        need (structOf (q .1 .1)) LoweringError.FieldOfNonStruct _ λ s es.
+        need (structNameOf (q .1 .1)) LoweringError.FieldOfNonStruct _ λ s es.
         need (structNamed K s) (LoweringError.UnresolvedType s) _ λ d ed.
         need (fieldPosition (d .1 .fields) f) (LoweringError.NoSuchField s f) _ λ i ei.
         gives (Instruction.Load IrType.U64 (q .1 .0) (i * 8)) IrType.U64 refl (Made.load (q .1 .0) s f i d (here refl) ed ei) (sub-there sub-refl) (k .same) (k .inv)

@@ -4,7 +4,7 @@
 use Rattle.lower_counters.proofs.Walk.{_≡_, refl, ap, ℕ, [], _∷_, List, URA, fullShare, named, w64, tyInt, Val, vint, vptr, SProp, ent, sep, emp, snd∗, exE, id⊢, GName, Lft, Share, ftrue, fat, flft, fobs, fbor, Memory, Routine, Heap, Calls, Loops, WpFn, Tables, Atoms, sem, Fun, fact, givenOf, tables, tablesOf, Given, ‵, raw, _⊛_, some, later, _$_, _∵_, !, qed, by, move, keep, drop, use0, use1, look-raw, rewrite, split, join, pick, fsplit, fsplit3, fjoin, fjoin3, feqI, suffices, frame, await, done, look, init, forget, stop, hop, from, load, of-opd, and-then, no-more, assigns, land, returns, enter, store-raw, alloc1, alloc0, params1, pass1, pass0, free1, free0, Body, FmC, fmOf, WpFn-mono, owns, Is, shows, mem, uint-makes, uint-lawful, usize, RefT, MutRef, ptr-vals, mut-tells, plain, only, opens, closes, owned, peeks, heard, nothing, spelt, onEntry, Meets, tripleOf, Contract, Triple, calls-at, ensured, lasts, entered, cited, says, needs, Stays, stay-ref, stay-none, walkOf, goes-ref, goes-none, Walks, ends-at, walked, walk-meets, yes}
 use denote.Struct.Laws as LL
 use denote.Enum.Laws as EL
-use Rattle.lower_counters.specs.Count.{numberOf, countedUp, HasRoom}
+use Rattle.lower_counters.specs.Count.{nextNumber, countedUp, HasRoom}
 use Rattle.lower_counters.specs.declared.Counters.{Counters}
 use Rattle.lower_counters.specs.declared.Kind.{Kind}
 use Rattle.lower_counters.proofs.Counters as T
@@ -69,10 +69,10 @@ module _ {M : Type 1} (𝓤 : URA M) (H : Heap 𝓤) (A : Atoms 𝓤) (W : Given
   goes-num was kind-is =
       qed W [] ∵ nothing ! $ owned ! K.the-row (Is K.the-row) (EL.makes K.the-type K′.the-plain 𝓤 H A) k _ kind-is $ fjoin ! $ owned ! T.the-row (Is T.the-row) (LL.makes T.the-type T′.the-plain 𝓤 H A) h _ was $ fjoin ! $ nothing ! $ join ! $ frame ! $ done !
 
-  said-num : (r : ℕ) → ent 𝓤 (ensured 𝓤 H A num.ended (num.clauses 𝓤 H A at-mem run) tt (h, (k, tt)) tt r) (fact 𝓤 (r ≡ numberOf k h))
-  said-num r = exE 𝓤 _ (λ ws. snd∗ 𝓤 (sem 𝓤 H A (lasts num.ended tt (h, (k, tt)) ws)) (fact 𝓤 (r ≡ numberOf k h)))
+  said-num : (r : ℕ) → ent 𝓤 (ensured 𝓤 H A num.ended (num.clauses 𝓤 H A at-mem run) tt (h, (k, tt)) tt r) (fact 𝓤 (r ≡ nextNumber k h))
+  said-num r = exE 𝓤 _ (λ ws. snd∗ 𝓤 (sem 𝓤 H A (lasts num.ended tt (h, (k, tt)) ws)) (fact 𝓤 (r ≡ nextNumber k h)))
 
-  exits : (r : ℕ) (m : Counters) → r ≡ numberOf k h → m ≡ countedUp k h → Is usize r (vint w64 r ∷ []) → Is K.the-row k (tag ∷ []) → ent 𝓤 (sep 𝓤 (A .obs γ (T.the-row .coded .code m)) (sep 𝓤 (A .bor κ (Body (mem T.the-row) b o γ)) (A .lft κ q))) (Post (vint w64 r))
+  exits : (r : ℕ) (m : Counters) → r ≡ nextNumber k h → m ≡ countedUp k h → Is usize r (vint w64 r ∷ []) → Is K.the-row k (tag ∷ []) → ent 𝓤 (sep 𝓤 (A .obs γ (T.the-row .coded .code m)) (sep 𝓤 (A .bor κ (Body (mem T.the-row) b o γ)) (A .lft κ q))) (Post (vint w64 r))
   exits r m e e′ is kind-is =
       qed W (‵ (fobs γ (T.the-row .coded .code m)) ∷ ‵ (fbor κ (Body (mem T.the-row) b o γ)) ∷ ‵ (flft κ q) ∷ []) ∵
       suffices ! _ (ends-at 𝓤 H A f.ended stayed (f.clauses 𝓤 H A at-mem run) W (((κ, tt), (q, tt), tt, x, at), tt) (vint w64 r) r (m, (tt, tt)) (tt, (tt, tt))) $ says ! (e, e′) $ nothing ! $ move ! (3 ∷ 0 ∷ []) $ join ! $
@@ -101,7 +101,7 @@ module _ {M : Type 1} (𝓤 : URA M) (H : Heap 𝓤) (A : Atoms 𝓤) (W : Given
         use0 W (raw (Num 𝓤 H A at-mem run .pre to-num)) (goes-num was kind-is) $
         calls-at ! fm (Num 𝓤 H A at-mem run) known-num to-num (and-then ! (load ! (from ! (stop !)) (look ! 8 refl)) (and-then ! (load ! (from ! (stop !)) (look ! 10 refl)) (no-more !))) (λ u.
         use1 W (later (some (λ (r : ℕ). (‵ ftrue ⊛ ‵ (usize .own r (u ∷ []))) ⊛ raw (ensured 𝓤 H A num.ended (num.clauses 𝓤 H A at-mem run) tt (h, (k, tt)) tt r)))) (id⊢ 𝓤 _) $ await ! tt $ pick ! (λ r.
-        split ! $ move ! (1 ∷ []) $ use1 W (raw (fact 𝓤 (r ≡ numberOf k h))) (said-num r) $ heard ! (r ≡ numberOf k h) (λ e′. split ! $ drop ! $
+        split ! $ move ! (1 ∷ []) $ use1 W (raw (fact 𝓤 (r ≡ nextNumber k h))) (said-num r) $ heard ! (r ≡ nextNumber k h) (λ e′. split ! $ drop ! $
         peeks ! usize (Is usize) (shows 𝓤 H A usize) r (u ∷ []) (λ is′. drop ! $
         land ! (from ! (stop !)) (init ! 13 refl (uint-lawful 𝓤 H A W w64 .typed r _ is′ .0)) $ rewrite ! 13 (λ (v : Val). ‵ (fat fullShare (tyInt w64) l₀ 0 v)) (ap only (is′ .0)) refl $
         move ! (1 ∷ []) $ drop ! $ owned ! T.the-row (Is T.the-row) (LL.makes T.the-type T′.the-plain 𝓤 H A) m _ made $ move ! (1 ∷ 0 ∷ []) $ closes ! tt T.the-row m (mach m ∷ []) b o $

@@ -4,7 +4,7 @@
 use Rattle.lower_counters.proofs.Walk.{_≡_, refl, ap, ℕ, [], _∷_, List, Holds, URA, fullShare, named, w64, tyInt, Val, vint, WT, hasTy, vptr, SProp, ent, sep, id⊢, GName, ftrue, fat, flft, flent, Memory, Routine, Heap, Calls, Loops, WpFn, Tables, Atoms, sem, Fun, fact, givenOf, tables, tablesOf, Given, ‵, raw, given, _⊛_, some, later, _$_, _∵_, !, qed, by, move, keep, drop, use1, use2, use3, rewrite, split, join, pick, learn, fsplit, fjoin, suffices, frame, await, done, look, init, forget, stop, from, load, addr, of-opd, and-then, no-more, assigns, land, returns, enter, alloc1, alloc0, params1, pass1, pass0, free1, free0, agg, Body, lft-new, lft-end, FmC, fmOf, WpFn-mono, owns, Is, shows, lends-ref, ref-back, mem, partAt, uint-lawful, usize, RefT, MutRef, only, owned, peeks, heard, nothing, onEntry, Meets, tripleOf, Contract, Triple, calls-at, ensured, lasts, entered, cited, says, needs, Stays, stay-none, walkOf, goes-none, Walks, ends-at, walked, walk-meets, yes}
 use denote.Struct.Laws as LL
 use denote.Enum.Laws as EL
-use Rattle.lower_counters.specs.Count.{numberOf, countedUp, HasRoom}
+use Rattle.lower_counters.specs.Count.{nextNumber, countedUp, HasRoom}
 use Rattle.lower_counters.specs.declared.Counters.{Counters}
 use Rattle.lower_counters.specs.declared.Kind.{Kind}
 use Rattle.lower_counters.specs.declared.Taken.{Taken}
@@ -62,7 +62,7 @@ module _ {M : Type 1} (𝓤 : URA M) (H : Heap 𝓤) (A : Atoms 𝓤) (W : Given
 
   -- what `fresh` says of its result and of the counters that it leaves
   abbrev Said : ℕ → Counters → Type 0
-  Said r m = (r ≡ numberOf k h) × (m ≡ countedUp k h)
+  Said r m = (r ≡ nextNumber k h) × (m ≡ countedUp k h)
 
   made : (r : ℕ) (m : Counters) → Is usize r (vint w64 r ∷ []) → Is T.the-row m (mach m ∷ []) → Is R.the-row (res r m) (R′.lowered (res r m) ∷ [])
   made r m is is′ = LL.owes R.the-type R′.the-laws (res r m) (is, (is′, tt))

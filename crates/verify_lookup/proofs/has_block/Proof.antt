@@ -1,48 +1,14 @@
--- `verify_lookup::has_block`: the search goes on from the block at p. Assumes nothing.
-use mathlib.Core.Path.{_≡_, refl, ap, sym, _∙_}
-use mathlib.Core.List.{List}
-use Prim.Native.Nat.{ℕ, _+_, _-_}
-use native.Mathlib.Omega.{arith}
-use Rattle.definitions.specs.Ir.{BasicBlock, contains}
-use Rattle.definitions.specs.Verify.{blockIds}
-use Rattle.definitions.proofs.Sheets.Steps.{low}
-use Rattle.program_nodes.specs.Positions.{stopHere, blocksHere, BlocksFrom}
-use Rattle.program_nodes.proofs.Walk.{BlockStep, block-here, blocks-end}
-use Rattle.verify_lookup.proofs.Ids.{has-front, has-rest, block-ids}
+-- `verify_lookup::has_block`: whether one is found. Assumes nothing.
+use borrow.Author.Needs.{needs}
+use Rattle.verify_lookup.proofs.Blocks.{id-lacks, id-there}
 use Rattle.verify_lookup.proofs.has_block.Statement.{statement}
 use Rattle.verify_lookup.proofs.has_block.Tie as tie
 
-abbrev Inv-loop : tie.InvT-loop
-Inv-loop s f b p₀ p = BlocksFrom s p (f .stop) × (contains (b .0) (blockIds (blocksHere s p (f .stop))) ≡ contains (b .0) (blockIds (blocksHere s (f .first) (f .stop))))
+returns : tie.Need-returns
+returns c = id-lacks (c .before .find-block .ensures) (c .if1 .taken)
 
-abbrev μ-loop : tie.MeasureT-loop
-μ-loop s f b p₀ p = f .stop - p
-
--- the block at p
-block : (t : tie.Then1 Inv-loop μ-loop) → BlockStep (t .before .before .before .before .args .s .now) (t .before .before .loop .p) (t .before .before .before .before .args .f .stop) (stopHere (t .before .before .before .before .args .s .now) (t .before .before .loop .p))
-block t = block-here (t .before .before .loop .inv .0) (t .if1 .taken)
-
-returns : tie.Need-returns Inv-loop μ-loop
-returns c = sym (sym (c .before .before .before .before .before .loop .inv .1) ∙ has-front (block-ids (block (c .before .before .before))) (sym (c .before .before .read-u16 .ensures) ∙ c .if2 .taken))
-
-loop-again : tie.Need-loop-again Inv-loop μ-loop
-loop-again c =
-    let B = block (c .before .before .before .before) in
-    rw (c .stop-at .ensures) (B .next, sym (has-rest (block-ids B) (λ z. c .before .if2 .left (c .before .before .before .read-u16 .ensures ∙ z))) ∙ c .before .before .before .before .before .before .loop .inv .1)
-
-returns-2 : tie.Need-returns-2 Inv-loop μ-loop
-returns-2 c =
-    let l = c .before .before .loop in
-    sym (sym (l .inv .1) ∙ ap (λ (bs : List BasicBlock). contains (c .before .before .before .before .args .b .0) (blockIds bs)) (blocks-end _ (omega (arith, low (l .inv .0), c .if1 .left))))
+returns-2 : tie.Need-returns-2
+returns-2 c = id-there (c .before .find-block .ensures) (c .if1 .left)
 
 pub has-block-spec : {M : Type 1} → statement M
-has-block-spec =
-    tie.close
-    (tie.spec Inv-loop μ-loop
-    (λ c. (c .before .pre .blocks, refl))
-    (λ t. omega (arith, block t .low, block t .high, t .before .before .before .before .pre .inside))
-    (λ t κs. omega (arith, block t .low, block t .high, t .before .before .before .before .pre .inside))
-    returns
-    (λ c κs. let B = block (c .before .before .before) in (omega (arith, B .low, B .high, c .before .before .before .before .before .before .before .pre .inside), omega (arith, B .high, c .before .before .before .before .before .before .before .pre .inside)))
-    (λ c. let B = block (c .before .before .before .before) in omega (arith, B .low, B .high, c .stop-at .ensures))
-    loop-again returns-2)
+has-block-spec = tie.close (tie.spec (λ c κs. search needs) returns returns-2)

@@ -1,59 +1,14 @@
--- `verify_lookup::has_function`: the search goes on from the function at p. Assumes nothing.
-use mathlib.Core.Path.{_≡_, refl, ap, sym, _∙_}
-use mathlib.Core.List.{List}
-use Prim.Native.Nat.{ℕ, _+_, _-_, _≤_}
-use native.Mathlib.Omega.{arith}
-use lib.ListN.{length}
-use Rattle.definitions.specs.Ir.{IrFunction, contains}
-use Rattle.definitions.specs.Verify.{functionIds}
-use Rattle.definitions.proofs.Sheets.Steps.{low}
-use Rattle.program_nodes.specs.Positions.{stopHere, functionsHere, idsOfAll, FunctionsFrom}
-use Rattle.program_nodes.proofs.Functions.{FunctionStep, head-there, function-here, no-functions}
-use Rattle.verify_lookup.proofs.Ids.{has-front, has-rest, function-ids}
+-- `verify_lookup::has_function`: whether one is found. Assumes nothing.
+use borrow.Author.Needs.{needs}
+use Rattle.verify_lookup.proofs.Functions.{id-lacks, id-there}
 use Rattle.verify_lookup.proofs.has_function.Statement.{statement}
 use Rattle.verify_lookup.proofs.has_function.Tie as tie
 
-abbrev Inv-loop : tie.InvT-loop
-Inv-loop s g p₀ p = FunctionsFrom s p × (contains (g .0) (functionIds (functionsHere s p (length s))) ≡ contains (g .0) (idsOfAll s))
+returns : tie.Need-returns
+returns c = id-lacks (c .before .find-function .ensures) (c .if1 .taken)
 
-abbrev μ-loop : tie.MeasureT-loop
-μ-loop s g p₀ p = length s - p
-
--- the function at p
-function : (e : tie.Else1 Inv-loop μ-loop) → FunctionStep (e .before .before .before .before .before .args .s .now) (e .before .before .before .loop .p) (length (e .before .before .before .before .before .args .s .now)) (stopHere (e .before .before .before .before .before .args .s .now) (e .before .before .before .loop .p))
-function e = function-here (record { program = e .before .before .before .before .before .pre; from = e .before .before .before .loop .inv .0; there = e .before .before .loop-test .taken; kind = omega (arith, e .before .kind-at .ensures, e .if1 .left) })
-
-function-fits : (e : tie.Else1 Inv-loop μ-loop) → e .before .before .before .loop .p + 18 ≤ stopHere (e .before .before .before .before .before .args .s .now) (e .before .before .before .loop .p)
-function-fits e = omega (arith, function e .low, low (function e .blocks))
-
-returns : tie.Need-returns Inv-loop μ-loop
-returns c =
-    let l = c .before .before .before .loop in
-    sym (sym (l .inv .1) ∙ ap (λ (fs : List IrFunction). contains (c .before .before .before .before .before .args .g .0) (functionIds fs)) (no-functions (l .inv .0) (λ h k. c .if1 .taken (c .before .kind-at .ensures ∙ k))))
-
-returns-2 : tie.Need-returns-2 Inv-loop μ-loop
-returns-2 c = sym (sym (c .before .before .before .before .before .before .loop .inv .1) ∙ has-front (function-ids (function (c .before .before .before))) (sym (c .before .before .read-u16 .ensures) ∙ c .if2 .taken))
-
-loop-again : tie.Need-loop-again Inv-loop μ-loop
-loop-again c =
-    let F = function (c .before .before .before .before) in
-    rw (c .stop-at .ensures) (F .next, sym (has-rest (function-ids F) (λ z. c .before .if2 .left (c .before .before .before .read-u16 .ensures ∙ z))) ∙ c .before .before .before .before .before .before .before .loop .inv .1)
-
-returns-3 : tie.Need-returns-3 Inv-loop μ-loop
-returns-3 c =
-    let l = c .before .loop in
-    sym (sym (l .inv .1) ∙ ap (λ (fs : List IrFunction). contains (c .before .before .before .args .g .0) (functionIds fs)) (no-functions (l .inv .0) (λ h k. omega (arith, h, c .loop-test .left))))
+returns-2 : tie.Need-returns-2
+returns-2 c = id-there (c .before .find-function .ensures) (c .if1 .left)
 
 pub has-function-spec : {M : Type 1} → statement M
-has-function-spec =
-    tie.close
-    (tie.spec Inv-loop μ-loop
-    (λ c. (c .before .pre, refl))
-    (λ c κs. omega (arith, head-there (c .before .loop .inv .0) (c .loop-test .taken)))
-    returns
-    (λ e. omega (arith, function-fits e, function e .high))
-    (λ e κs. omega (arith, function-fits e, function e .high))
-    returns-2
-    (λ c κs. let F = function (c .before .before .before) in (omega (arith, function-fits (c .before .before .before), F .high), F .high))
-    (λ c. let F = function (c .before .before .before .before) in omega (arith, function-fits (c .before .before .before .before), F .high, c .stop-at .ensures))
-    loop-again returns-3)
+has-function-spec = tie.close (tie.spec (λ c κs. search needs) returns returns-2)

@@ -10,7 +10,7 @@ use Rattle.contract_nodes.specs.Ready.{Ready}
 use Rattle.contract_nodes.proofs.Children.{bounds}
 use Rattle.contract_nodes.proofs.Stmts.{Last, last-kind}
 use Rattle.analyze_state.specs.Scene.{Scene}
-use Rattle.analyze_stmts.specs.Stepped.{Holds, Room}
+use Rattle.analyze_stmts.specs.Stmts.{RoomForAll, Room}
 use Rattle.analyze_stmts.proofs.StmtSteps.{plain-done}
 use Rattle.analyze_stmts.proofs.+analyze_for+analyze_if+analyze_stmt+analyze_stmts+analyze_while.Proof.Base.{analyze-stmt-at, R-analyze-stmt}
 use Rattle.analyze_stmts.proofs.+analyze_for+analyze_if+analyze_stmt+analyze_stmts+analyze_while.Lts-analyze_stmt as lts
@@ -35,7 +35,7 @@ module _ (t : ℕ) where
 
   -- of one with others inside
   composed : (c : At lts.After-read) (k : ℕ) → c .read .result ≡ k
-      → let a = first c .args in (4 * a .depth + 0 < t) × (Asked c k × (Holds (a .s .now) (a .entries .now) × Room (a .ctx .names) (a .at)))
+      → let a = first c .args in (4 * a .depth + 0 < t) × (Asked c k × (RoomForAll (a .s .now) (a .entries .now) × Room (a .ctx .names) (a .at)))
   composed c k e = let p = first c .pre in (omega (arith, p .0), (asked c k e, p .1 .1))
 
   -- the kind that is none of 10 to 19

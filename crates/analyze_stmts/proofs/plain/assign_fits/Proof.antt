@@ -5,7 +5,7 @@ use Rattle.analyze_walk.specs.Stops.{sema}
 use Rattle.analyze_env.specs.Known.{asTy}
 use Rattle.analyze_exprs.specs.Typed.{typedOf}
 use Rattle.analyze_exprs.specs.declared.Typed.{Typed}
-use Rattle.analyze_stmts.specs.Stepped.{assignOn}
+use Rattle.analyze_stmts.specs.Stmts.{assignOn}
 use Rattle.analyze_stmts.proofs.PlainSteps.{fits}
 use Rattle.analyze_stmts.proofs.plain.assign_fits.Statement.{statement}
 use Rattle.analyze_stmts.proofs.plain.assign_fits.Tie as tie

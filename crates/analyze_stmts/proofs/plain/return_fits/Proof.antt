@@ -6,7 +6,7 @@ use Rattle.ir.specs.Types.{asType}
 use Rattle.analyze_walk.specs.Stops.{sema}
 use Rattle.analyze_exprs.specs.Typed.{typedOf}
 use Rattle.analyze_exprs.specs.declared.Typed.{Typed}
-use Rattle.analyze_stmts.specs.Stepped.{returnOn}
+use Rattle.analyze_stmts.specs.Stmts.{returnOn}
 use Rattle.analyze_stmts.proofs.PlainSteps.{fits}
 use Rattle.analyze_stmts.proofs.plain.return_fits.Statement.{statement}
 use Rattle.analyze_stmts.proofs.plain.return_fits.Tie as tie

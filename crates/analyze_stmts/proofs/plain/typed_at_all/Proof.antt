@@ -3,7 +3,7 @@ use mathlib.Core.Path.{sym, ap}
 use borrow.Author.Needs.{needs}
 use Rattle.analyze_exprs.specs.Typed.{typedOf}
 use Rattle.analyze_exprs.specs.declared.Typed.{Typed}
-use Rattle.analyze_stmts.specs.Stepped.{dropType}
+use Rattle.analyze_stmts.specs.Stmts.{dropType}
 use Rattle.analyze_stmts.proofs.plain.typed_at_all.Statement.{statement}
 use Rattle.analyze_stmts.proofs.plain.typed_at_all.Tie as tie
 

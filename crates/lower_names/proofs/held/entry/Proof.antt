@@ -5,7 +5,8 @@ use native.Mathlib.Omega.{arith}
 use borrow.Author.Needs.{needs}
 use Rattle.definitions.specs.Ir.{tagOf, nameOf}
 use Rattle.ir.specs.Types.{asType}
-use Rattle.lower_names.proofs.Packed.{tag-low, packed}
+use Rattle.ir.proofs.Codes.{tag-low}
+use Rattle.lower_names.proofs.Packed.{packed}
 use Rattle.lower_names.proofs.held.entry.Statement.{statement}
 use Rattle.lower_names.proofs.held.entry.Tie as tie
 

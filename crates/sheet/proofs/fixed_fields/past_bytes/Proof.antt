@@ -1,13 +1,13 @@
 -- `sheet::fixed_fields::past_bytes`: both ways out. Assumes nothing.
 use borrow.Author.Needs.{needs}
 use borrow.Author.Tests.{le-leb, lt-leb}
-use Rattle.sheet.specs.Codes.{placeOf}
+use Rattle.sheet.specs.Codes.{placeOrNone}
 use Rattle.sheet.proofs.Fields.{placed}
 use Rattle.sheet.proofs.fixed_fields.past_bytes.Statement.{statement}
 use Rattle.sheet.proofs.fixed_fields.past_bytes.Tie as tie
 
 returns : tie.Need-returns
-unfolding placeOf
+unfolding placeOrNone
 returns c = rw (lt-leb _ _ (c .if1 .taken))
 
 returns-2 : tie.Need-returns-2

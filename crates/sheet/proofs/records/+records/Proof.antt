@@ -12,7 +12,7 @@ use Rattle.sheet.proofs.Heads.{class-small, Begun}
 use Rattle.sheet.proofs.fixed_fields.past_fixed.Reads as past-fixed
 use Rattle.sheet.proofs.records.after.Reads as after
 use Rattle.sheet.proofs.records.fault_at.Reads as fault-at
-use Rattle.sheet.proofs.records.kind_at.Reads as kind-at
+use Rattle.sheet.proofs.records.fitting_kind.Reads as fitting-kind
 use Rattle.sheet.proofs.records.may_end.Reads as may-end
 use Rattle.sheet.proofs.tables.row_of.Reads as row-of
 use Rattle.sheet.proofs.records.records.Reads as records
@@ -30,8 +30,8 @@ At t = and 1 kinds.ps (is 1 kinds.ps μ t) records.Pre
 
 abbrev Calls : ℕ → lts.Claims
 Calls t = (
-  kind-at.Asked,
-  kind-at.Learnt,
+  fitting-kind.Asked,
+  fitting-kind.Learnt,
   row-of.Asked,
   row-of.Learnt,
   after.Asked,
@@ -59,7 +59,7 @@ module _ (t : ℕ) where
   started : (c : lts.Else1 (Calls t) (At t) records.Post Inv-loop μ-loop)
       → let l = c .before .before .before .before .before in Begun (l .before .before .args .s .now) (l .loop .place) (l .before .before .args .end) (l .loop .left) (c .before .before .row-of .result) (c .before .after .result)
   started c =
-      there (c .before .before .before .before .before .loop .inv) (c .before .before .before .before .loop-test .taken) (c .before .before .before .kind-at .ensures) (c .before .before .row-of .ensures) (c .before .after .ensures) (c .if1 .left)
+      there (c .before .before .before .before .before .loop .inv) (c .before .before .before .before .loop-test .taken) (c .before .before .before .fitting-kind .ensures) (c .before .before .row-of .ensures) (c .before .after .ensures) (c .if1 .left)
 
   entered : (c : lts.Else2 (Calls t) (At t) records.Post Inv-loop μ-loop)
       → let l = c .before .before .before .before .before .before .before .before in
@@ -75,7 +75,7 @@ module _ (t : ℕ) where
   after-requires c κs = search (class-small, needs)
 
   returns : lts.Need-returns (Calls t) (At t) records.Post Inv-loop μ-loop
-  returns c = not-there (c .before .before .before .before .before .before .loop .inv) (c .before .before .before .before .before .loop-test .taken) (c .before .before .before .before .kind-at .ensures) (c .before .before .before .row-of .ensures) (c .before .before .after .ensures) (c .fault-at .ensures) (c .before .if1 .taken)
+  returns c = not-there (c .before .before .before .before .before .before .loop .inv) (c .before .before .before .before .before .loop-test .taken) (c .before .before .before .before .fitting-kind .ensures) (c .before .before .before .row-of .ensures) (c .before .before .after .ensures) (c .fault-at .ensures) (c .before .if1 .taken)
 
   read-requires : lts.Need-read-requires (Calls t) (At t) records.Post Inv-loop μ-loop
   read-requires c κs = let d = started c in omega arith

@@ -1,0 +1,4 @@
+pub mod Frames
+pub mod Placing
+pub mod Running
+pub mod Blocks

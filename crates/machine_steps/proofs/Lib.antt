@@ -1,0 +1,5 @@
+pub mod Asking
+pub mod Doing
+pub mod Lent
+pub mod Operands
+pub mod Moving
