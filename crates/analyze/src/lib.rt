@@ -1,4 +1,6 @@
 // The body check: from any bytes to acceptance or one numbered refusal.
+#![tactic(auto)]
+
 ghost use Rattle.std.specs.Prelude.{◌≡◌, ◌+◌, ◌*◌, ◌≤◌, length};
 ghost use Rattle.definitions.specs.Answers.{analyze_sheet};
 ghost use Rattle.definitions.specs.Grammar.{Class};
@@ -20,14 +22,14 @@ use reader::{read, read_u16};
 use sheet::ContractCheck;
 
 // How many structs and functions a contract has.
-#[derive(Drop)]
+#[derive(Clone, Copy)]
 struct Counts {
     structs: usize,
     functions: usize,
 }
 
 // The answer: acceptance, or why there is none.
-#[derive(Drop)]
+#[derive(Clone, Copy)]
 pub enum Answer {
     Accepted,
     TooLong,

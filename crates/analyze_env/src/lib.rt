@@ -1,5 +1,7 @@
 // The names that are known in a function, with their types (`env` of `sema.rs`). Each chain of names has a head, the position of its newest
 // entry and one, and each entry a link to the one before it of its chain. The slices are lent; a caller keeps the count.
+#![tactic(auto)]
+
 ghost use Rattle.std.specs.Prelude.{◌≡◌, ◌≤◌, ◌<◌, length};
 ghost use Rattle.definitions.specs.Analyze as analyze;
 ghost use Rattle.definitions.specs.Analyze.{get};
@@ -14,14 +16,14 @@ pub const FEW: usize = 1024;
 pub const ALL: usize = 65536;
 
 // A type of the body check.
-#[derive(Drop)]
+#[derive(Clone, Copy)]
 pub enum Ty {
     Known(IrType),
     Unknown,
 }
 
 // A name's type, if it is known.
-#[derive(Drop)]
+#[derive(Clone, Copy)]
 pub enum NameType {
     Type(Ty),
     Missing,

@@ -122,7 +122,7 @@ pub(crate) fn binary(at: usize, left: Ty, right: Typed) -> Typed
 
 // A field of a literal of the struct at `of`, by the type of its value. The literal's place is `at`.
 fn check_value(s: &[u8], at: usize, of: usize, field: Name, ty: Ty) -> BodyCheck
-    requires { ContractPassed s.now × Ready Class.#[cycle(s)] struct s.now of 39 }
+    requires { ContractPassed s.now × Ready Class.struct s.now of 39 }
     ensures { body_check_of result ≡ field_check at (struct_of (tree_at s.now of)).fields field.0 (as_ty ty) }
 {
     match field_type(s, of, field) {
@@ -138,7 +138,7 @@ fn check_value(s: &[u8], at: usize, of: usize, field: Name, ty: Ty) -> BodyCheck
 
 // The same, by what came of its value.
 pub(crate) fn check_field(s: &[u8], at: usize, of: usize, field: Name, typed: Typed) -> BodyCheck
-    requires { ContractPassed s.now × Ready Class.#[cycle(s)] struct s.now of 39 }
+    requires { ContractPassed s.now × Ready Class.struct s.now of 39 }
     ensures { body_check_of result ≡ field_fits at (struct_of (tree_at s.now of)).fields field.0 (typed_of typed) }
 {
     match typed {

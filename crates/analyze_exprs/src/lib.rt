@@ -1,5 +1,7 @@
 // The body check of expressions: `analyze_expr`, `analyze_literal` and `analyze_call`, which call one another; the depth left falls. It stops at
 // the first error.
+#![tactic(auto)]
+
 ghost use Rattle.std.specs.Prelude.{◌≡◌, ◌+◌, ◌≤◌, length};
 ghost use Rattle.definitions.specs.Fields.{le};
 ghost use Rattle.definitions.specs.Grammar.{Class};
@@ -20,14 +22,14 @@ mod calls; // what is called, and whether the arguments fit
 mod leaves; // expressions without expressions in them, and what is done with types
 
 // What an expression came to: its type, or an error.
-#[derive(Drop)]
+#[derive(Clone, Copy)]
 pub enum Typed {
     Type(Ty),
     Refused(SemaError),
 }
 
 // What a name stands for in a call: a built-in function of so many parameters of type U64, the function at a place, or nothing.
-#[derive(Drop)]
+#[derive(Clone, Copy)]
 enum Callee {
     BuiltIn(usize),
     Declared(usize),
@@ -35,7 +37,7 @@ enum Callee {
 }
 
 // The expression at a place, with the names that are known.
-#[cycle(analyze_call_analyze_expr_analyze_literal)]
+#[cycle(exprs)]
 pub fn analyze_expr(
     s: &[u8],
     at: usize,
@@ -91,7 +93,7 @@ pub fn analyze_expr(
 }
 
 // A struct literal: its struct, then its fields in order. Each field's value stands behind the field's name.
-#[cycle(analyze_call_analyze_expr_analyze_literal)]
+#[cycle(exprs)]
 fn analyze_literal(
     s: &[u8],
     at: usize,
@@ -128,7 +130,7 @@ fn analyze_literal(
 }
 
 // A call: its arguments in order, then what is called.
-#[cycle(analyze_call_analyze_expr_analyze_literal)]
+#[cycle(exprs)]
 fn analyze_call(
     s: &[u8],
     at: usize,

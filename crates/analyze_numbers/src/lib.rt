@@ -1,4 +1,6 @@
 // The body check's answer as numbers: one place has the number of each case.
+#![tactic(auto)]
+
 ghost use Rattle.analyze.specs.Whole.{answer_of};
 ghost use Rattle.analyze_state.specs.Errors.{error_of};
 ghost use Rattle.definitions.specs.Answers.{numbers_of};

@@ -1,4 +1,6 @@
 // The body check of statements that have no statements in them, and of the bounds of a For.
+#![tactic(auto)]
+
 ghost use Rattle.std.specs.Prelude.{◌≡◌};
 ghost use Rattle.definitions.specs.Grammar.{Class};
 ghost use Rattle.sheet.specs.Passed.{record_kind, stop_of};
@@ -16,7 +18,7 @@ use reader::read;
 mod plain; // statements that declare no name and have no statements in them
 
 // After a statement, or statements: how many names are known, or an error.
-#[derive(Drop)]
+#[derive(Clone, Copy)]
 pub enum KnownNames {
     Next(usize),
     Refused(SemaError),

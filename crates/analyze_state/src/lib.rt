@@ -1,8 +1,10 @@
 // What the body check keeps while it walks, and why it refuses.
+#![tactic(auto)]
+
 use ir::IrType;
 
 // The errors of the body check, in the order of their texts in `sema.rs`, each with the place of the record whose rule raised it.
-#[derive(Drop)]
+#[derive(Clone, Copy)]
 pub enum SemaError {
     AssignMismatch(usize),
     UndefinedVariable(usize),
@@ -21,7 +23,7 @@ pub enum SemaError {
 
 // The Rust's `SemanticAnalyzer`, with the function under way: how many names are known (`analyze_env`), how many structs and functions the
 // contract has (`contract_lookup::places`), and the function's return type.
-#[derive(Drop)]
+#[derive(Clone, Copy)]
 pub struct Analyzer {
     pub names: usize,
     pub structs: usize,
@@ -30,7 +32,7 @@ pub struct Analyzer {
 }
 
 // Whether a part passed.
-#[derive(Drop)]
+#[derive(Clone, Copy)]
 pub enum BodyCheck {
     Passed,
     Failed(SemaError),

@@ -1,5 +1,7 @@
 // The body check of statements: `analyze_stmt` recurses into arms and bodies, and the depth left falls. A Let stays known to the end of its
 // function, but for those inside a For.
+#![tactic(auto)]
+
 ghost use Rattle.std.specs.Prelude.{◌≡◌};
 ghost use Rattle.definitions.specs.Grammar.{Class};
 ghost use Rattle.sheet.specs.Passed.{record_kind};
@@ -18,7 +20,7 @@ use ir::IrType;
 use reader::read;
 
 // From a place to an end.
-#[derive(Drop)]
+#[derive(Clone, Copy)]
 pub struct Span {
     pub from: usize,
     pub end: usize,
@@ -38,7 +40,7 @@ fn knowing(ctx: Analyzer, names: usize) -> Analyzer
 }
 
 // If: the condition, then both arms, one after the other. An arm that is absent is one without statements.
-#[cycle(analyze_for_analyze_if_analyze_stmt_analyze_stmts_analyze_while)]
+#[cycle(stmts)]
 fn analyze_if(
     s: &[u8],
     at: usize,
@@ -89,7 +91,7 @@ fn analyze_if(
 }
 
 // While: the condition, then the body.
-#[cycle(analyze_for_analyze_if_analyze_stmt_analyze_stmts_analyze_while)]
+#[cycle(stmts)]
 fn analyze_while(
     s: &[u8],
     at: usize,
@@ -121,7 +123,7 @@ fn analyze_while(
 }
 
 // For: both bounds, then the body, in which the variable is known. What became known in it is not known behind it.
-#[cycle(analyze_for_analyze_if_analyze_stmt_analyze_stmts_analyze_while)]
+#[cycle(stmts)]
 fn analyze_for(
     s: &[u8],
     at: usize,
@@ -173,7 +175,7 @@ fn analyze_for(
 }
 
 // The statement at a place.
-#[cycle(analyze_for_analyze_if_analyze_stmt_analyze_stmts_analyze_while)]
+#[cycle(stmts)]
 fn analyze_stmt(
     s: &[u8],
     at: usize,
@@ -199,7 +201,7 @@ fn analyze_stmt(
 }
 
 // The statements of a span.
-#[cycle(analyze_for_analyze_if_analyze_stmt_analyze_stmts_analyze_while)]
+#[cycle(stmts)]
 pub fn analyze_stmts(
     s: &[u8],
     span: Span,

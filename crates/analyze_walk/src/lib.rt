@@ -1,1 +1,3 @@
 // The body check as the code does it: helper definitions and proofs; no code.
+#![tactic(auto)]
+

@@ -1,11 +1,13 @@
 // Standard input and output and the arguments, as the programs use them. What fails is said on standard error, and then no answer is printed.
 // No contract of the C library says which bytes a read gave or a write took, so none here does.
+#![tactic(auto)]
+
 ghost use Rattle.console.specs.Input.{InputFits};
 
 use libc::{STDERR_FILENO, STDIN_FILENO, STDOUT_FILENO};
 
 // What a read of standard input came to.
-#[derive(Drop)]
+#[derive(Clone, Copy)]
 pub enum Input {
     // This many bytes were put at the start of the buffer. They are fewer than the buffer holds only where the input ended.
     Read(usize),

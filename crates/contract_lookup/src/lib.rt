@@ -1,4 +1,6 @@
 // What a name stands for on a contract sheet: a type, a storage field, a struct and its fields, a function.
+#![tactic(auto)]
+
 ghost use Rattle.std.specs.Prelude.{◌≡◌, ◌+◌, ◌≤◌, length};
 ghost use Rattle.definitions.specs.Fields.{le};
 
@@ -11,35 +13,35 @@ pub mod symbols; // storage fields, structs and functions by name
 pub mod types; // types by name
 
 // A record of the contract: its position among those of its kind, and its place.
-#[derive(Drop)]
+#[derive(Clone, Copy)]
 pub enum Found {
     At(usize, usize),
     Missing,
 }
 
 // A storage field's slot.
-#[derive(Drop)]
+#[derive(Clone, Copy)]
 pub enum Slot {
     At(usize),
     Undeclared,
 }
 
 // A struct's field, by position.
-#[derive(Drop)]
+#[derive(Clone, Copy)]
 pub enum Position {
     At(usize),
     Missing,
 }
 
 // The type of a struct's field.
-#[derive(Drop)]
+#[derive(Clone, Copy)]
 pub enum FieldType {
     Type(IrType),
     Missing,
 }
 
 // A function's id and the type of a call of it.
-#[derive(Drop)]
+#[derive(Clone, Copy)]
 pub enum Signature {
     At(FunctionId, IrType),
     Undefined,

@@ -39,7 +39,7 @@ pub(crate) fn or_earlier(later: usize, earlier: usize) -> usize
 }
 
 // A storage field's bytes and slot.
-#[derive(Drop)]
+#[derive(Clone, Copy)]
 struct StorageField {
     bytes: usize,
     slot: usize,

@@ -67,9 +67,9 @@ bytes_le (suc n) s at h =
     cons m (rw (← d) at (bytes_le n s (at + 1) h))
 
 -- what stands one after the other stands as one list
-pub join : {a b s : List ℕ} {at : ℕ} → Stands s at a → Stands s (at + length a) b → Stands s at (a ++ b)
-join {b = b} {s = s} {at = at} nil k = rw (add-zero at) at k
-join {b = b} {s = s} {at = at} (cons {b = a} e h) k =
+pub join : {s a b : List ℕ} {at : ℕ} → Stands s at a → Stands s (at + length a) b → Stands s at (a ++ b)
+join {s = s} {b = b} {at = at} nil k = rw (add-zero at) at k
+join {s = s} {b = b} {at = at} (cons {b = a} e h) k =
     let z : at + suc (length a) ≡ at + 1 + length a = omega arith in
     cons e (join h (rw z at k))
 

@@ -1,4 +1,6 @@
 // A number in decimal digits, as bytes of any slice.
+#![tactic(auto)]
+
 ghost use Rattle.std.specs.Prelude.{◌≡◌, ◌+◌, ◌≤◌, ◌<◌, length};
 ghost use Rattle.definitions.specs.Lines as lines;
 ghost use Rattle.digits.specs.Digits.{DigitsPut};

@@ -1,4 +1,6 @@
 // The numbers of both sheets' format (docs/FORMAT.md), each said once. Places are counted from a record's first byte.
+#![tactic(auto)]
+
 pub mod contract; // where the fields of a contract sheet's records stand
 pub mod kinds; // record kinds
 pub mod operators; // the operators of a Binary

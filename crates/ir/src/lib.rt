@@ -1,4 +1,6 @@
 // Names, ids, types and instruction kinds of the intermediate program (`ir/mod.rs`), as document 01 numbers them.
+#![tactic(auto)]
+
 ghost use Rattle.std.specs.Prelude.{◌≡◌, [], ◌∷◌, ◌/◌, ◌%◌, ◌≤◌, ◌<◌};
 ghost use Rattle.definitions.specs.Names.{empty, u64, bool, field, void, poseidon, verify_merkle_proof, msg_sender, msg_nonce, block_number};
 ghost use Rattle.definitions.specs.Records.{type_from};
@@ -8,7 +10,7 @@ ghost use Rattle.ir.specs.Kinds.{rule_number, effect_number};
 use format::kinds::FIRST_INSTRUCTION;
 
 // A name. Equal numbers stand for equal strings.
-#[derive(Drop)]
+#[derive(Clone, Copy)]
 pub struct Name(pub u16);
 
 // The reserved names.
@@ -60,19 +62,19 @@ pub fn reserved() -> [u16; 10]
 }
 
 // The four kinds of id: one never passes for another.
-#[derive(Drop)]
+#[derive(Clone, Copy)]
 pub struct ValueId(pub u16);
 
-#[derive(Drop)]
+#[derive(Clone, Copy)]
 pub struct BlockId(pub u16);
 
-#[derive(Drop)]
+#[derive(Clone, Copy)]
 pub struct FunctionId(pub u16);
 
-#[derive(Drop)]
+#[derive(Clone, Copy)]
 pub struct LocalId(pub u16);
 
-#[derive(Drop)]
+#[derive(Clone, Copy)]
 pub enum IrType {
     U64,
     Bool,
@@ -135,7 +137,7 @@ pub fn type_of_code(code: usize) -> IrType
 
 // What an instruction kind gives and does: one of the RESULT numbers, and one of the EFFECT numbers. Verifying reads the results;
 // the effects have no reader here. Document 01 asks for one table with both, and `kind_row` checks it over all of its rows at once.
-#[derive(Drop)]
+#[derive(Clone, Copy)]
 pub struct KindRow(pub u8, pub u8);
 
 // The type of a result: none, the instruction's own, its own unless that is Void, Bool, U64.

@@ -1,4 +1,6 @@
 // An answer as the line that is printed.
+#![tactic(auto)]
+
 ghost use Rattle.std.specs.Prelude.{◌≡◌, ◌≤◌, length, take};
 ghost use Rattle.definitions.specs.Answers.{analyze_sheet, check_contract, lower_sheet, numbers_of, output_of, padded, verify_sheet};
 ghost use Rattle.definitions.specs.Lines.{line_of, lowered_line};

@@ -1,4 +1,6 @@
 // Lowering: from any bytes to a program sheet or one numbered refusal.
+#![tactic(auto)]
+
 ghost use Rattle.std.specs.Prelude.{◌≡◌, List, ℕ, ◌<◌, length, take};
 ghost use Rattle.definitions.specs.Answers.{lower_sheet, length_of, output_of};
 ghost use Rattle.definitions.specs.ContractSheet.{read_contract};
@@ -22,7 +24,7 @@ use sheet::ContractCheck;
 use writer::{clear, write};
 
 // The answer: the sheet's length, or why there is none.
-#[derive(Drop)]
+#[derive(Clone, Copy)]
 pub enum Answer {
     Accepted(usize),
     TooLong,
@@ -33,7 +35,7 @@ pub enum Answer {
 }
 
 // What the functions came to: the place after their records, or a refusal.
-#[derive(Drop)]
+#[derive(Clone, Copy)]
 enum Placed {
     To(usize),
     Refused(LoweringError),

@@ -1,12 +1,14 @@
 // The counters of a function under way. `fresh` is lent them and takes the next number of a kind; `next_of`, and `next_value`, `next_block`
 // and `next_local` above it, take and give them back whole, for code that keeps them in its own state.
+#![tactic(auto)]
+
 ghost use Rattle.std.specs.Prelude.{◌≡◌, suc, ◌%◌, ◌<◌};
 ghost use Rattle.lower_counters.specs.Count.{next_number, counted_up, HasRoom, counted_value, counted_block, counted_local};
 
 use ir::{BlockId, LocalId, ValueId};
 
 // The next value, block and local, before the first of them is taken: all 0.
-#[derive(Drop)]
+#[derive(Clone, Copy)]
 pub struct Counters {
     pub value: u16,
     pub block: u16,
@@ -14,7 +16,7 @@ pub struct Counters {
 }
 
 // Which of the counters.
-#[derive(Drop)]
+#[derive(Clone, Copy)]
 pub enum Kind {
     Value,
     Block,
@@ -76,7 +78,7 @@ pub fn fresh(c: &mut Counters, kind: Kind) -> usize
 }
 
 // A number, and the counters after it.
-#[derive(Drop)]
+#[derive(Clone, Copy)]
 pub struct Taken {
     pub number: usize,
     pub counters: Counters,
@@ -94,19 +96,19 @@ pub fn next_of(mut c: Counters, kind: Kind) -> Taken
 }
 
 // An id, and the counters after it.
-#[derive(Drop)]
+#[derive(Clone, Copy)]
 pub struct CountedValue {
     pub id: ValueId,
     pub counters: Counters,
 }
 
-#[derive(Drop)]
+#[derive(Clone, Copy)]
 pub struct CountedBlock {
     pub id: BlockId,
     pub counters: Counters,
 }
 
-#[derive(Drop)]
+#[derive(Clone, Copy)]
 pub struct CountedLocal {
     pub id: LocalId,
     pub counters: Counters,

@@ -1,4 +1,6 @@
 // Instructions and terminators appended to the log, each by one call. An instruction that gives a value takes the next one from the counters.
+#![tactic(auto)]
+
 ghost use Rattle.std.specs.Prelude.{List, ◌++◌, ◌≡◌, ℕ, ◌≤◌, ◌<◌};
 ghost use Rattle.std.proofs.Math.Option.{none, some};
 ghost use Rattle.definitions.specs.Fields.{bytes};
@@ -16,7 +18,7 @@ use lower_counters::{CountedValue, next_value};
 use lower_state::{FnCtx, LOST, Log};
 
 // After an instruction that gives a value: the state, and the value.
-#[derive(Drop)]
+#[derive(Clone, Copy)]
 pub struct Pushed {
     pub ctx: FnCtx,
     pub id: ValueId,
@@ -62,7 +64,7 @@ fn put(log: &mut Log, at: usize, n: usize, v: usize) -> usize
 }
 
 // A part of a record: so many bytes of a number.
-#[derive(Drop)]
+#[derive(Clone, Copy)]
 pub struct Part(pub usize, pub usize);
 
 const NOTHING: Part = Part(0, 0);

@@ -1,4 +1,6 @@
 // Expressions into the log: `lower_expr`, `lower_expr_value` and `lower_call`, which call one another; the depth left falls.
+#![tactic(auto)]
+
 ghost use Rattle.std.specs.Prelude.{◌≡◌, ◌≤◌};
 ghost use Rattle.definitions.specs.Grammar.{Class};
 ghost use Rattle.sheet.specs.Passed.{record_kind};
@@ -17,7 +19,7 @@ use lower_values::{Lowered, Valued, calls, leaves};
 use reader::read;
 
 // The expression at a place, with the names that are held.
-#[cycle(lower_call_lower_expr_lower_expr_value)]
+#[cycle(exprs)]
 pub fn lower_expr(
     s: &[u8],
     at: usize,
@@ -80,7 +82,7 @@ pub fn copied(ctx: FnCtx) -> FnCtx
 }
 
 // An expression that must give a value.
-#[cycle(lower_call_lower_expr_lower_expr_value)]
+#[cycle(exprs)]
 pub fn lower_expr_value(
     s: &[u8],
     at: usize,
@@ -103,7 +105,7 @@ pub fn lower_expr_value(
 }
 
 // A call: what is called, then its arguments, then the call itself.
-#[cycle(lower_call_lower_expr_lower_expr_value)]
+#[cycle(exprs)]
 fn lower_call(
     s: &[u8],
     at: usize,

@@ -1,4 +1,6 @@
 // The walk of a function: its parameters, its statements and the Return of an open last block, into the log.
+#![tactic(auto)]
+
 ghost use Rattle.std.specs.Prelude.{◌+◌, ◌*◌, ◌≤◌, length};
 ghost use Rattle.definitions.specs.Grammar.{Class};
 ghost use Rattle.contract_nodes.specs.Ready.{Ready};
@@ -19,7 +21,7 @@ use lower_stmts::lower_stmts;
 use reader::{read, read_u16};
 
 // The names that are held once the parameters are, and the state then.
-#[derive(Drop)]
+#[derive(Clone, Copy)]
 struct Begun {
     scopes: Scopes,
     step: Step,

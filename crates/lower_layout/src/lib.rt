@@ -1,4 +1,6 @@
 // The program sheet from the log: a counting pass, then each function's record at its known place, its blocks in the order of their ids.
+#![tactic(auto)]
+
 ghost use Rattle.std.specs.Prelude.{◌≡◌, map, ◌+◌, ◌-◌, ◌*◌, ◌≤◌, ◌<◌, length, get_or};
 ghost use Rattle.definitions.specs.Grammar.{Class};
 ghost use Rattle.definitions.specs.Records.{ty, group, write_value};

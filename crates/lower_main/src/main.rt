@@ -3,6 +3,8 @@
 // Anything over 32,768 bytes is answer 1, so what stands behind the buffer's 65,536 bytes changes nothing (`cut_lowered` of lines).
 // No contract can say which bytes are read or written, so `main` is proved only safe and ending. `lines::lower_line` has the contract on the
 // bytes: from the sheet in the buffer to the line in `text`.
+#![tactic(auto)]
+
 use console::Input;
 use format::MOST;
 use lines::LOWERED_LINE;

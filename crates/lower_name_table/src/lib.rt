@@ -1,4 +1,6 @@
 // The records of the functions' names at the program sheet's end: one for each distinct name in order of first appearance, with the last id of it.
+#![tactic(auto)]
+
 ghost use Rattle.std.specs.Prelude.{◌≡◌, Bool, ◌≤◌, length};
 ghost use Rattle.definitions.specs.Records.{write_tree};
 ghost use Rattle.definitions.specs.ProgramSheet.{function_name_tree};

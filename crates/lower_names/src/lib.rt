@@ -1,4 +1,6 @@
 // What a name stands for in lowering: a local that is held, a field's offset.
+#![tactic(auto)]
+
 use ir::{IrType, LocalId};
 use lower_state::LoweringError;
 
@@ -6,14 +8,14 @@ pub mod held; // the names that are held
 pub mod offsets; // fields of a value
 
 // A name's local and type, if it is held.
-#[derive(Drop)]
+#[derive(Clone, Copy)]
 pub enum Lookup {
     Local(LocalId, IrType),
     NotHeld,
 }
 
 // A field's offset in bytes, or why there is none.
-#[derive(Drop)]
+#[derive(Clone, Copy)]
 pub enum Offset {
     At(usize),
     Refused(LoweringError),
@@ -26,7 +28,7 @@ pub const MOST_HELD: usize = 256;
 pub type Entries = [u64; MOST_HELD];
 
 // The names that are held. Leaving a scope is using the value from before it.
-#[derive(Drop)]
+#[derive(Clone, Copy)]
 pub struct Scopes {
     pub entries: Entries,
     pub count: usize,
@@ -35,7 +37,7 @@ pub struct Scopes {
 
 // Of the scopes what is no entry: how many names are held, and the number of the innermost scope. A function's own is 0, and an arm or a body
 // is one more than what it stands in.
-#[derive(Drop)]
+#[derive(Clone, Copy)]
 pub struct Top {
     pub count: usize,
     pub scope: usize,

@@ -1,4 +1,6 @@
 // Lowering's answer, and that of its check of a contract sheet, as numbers: one place has the number of each case.
+#![tactic(auto)]
+
 ghost use Rattle.definitions.specs.Answers.{length_numbers, lower_refusal, numbers_of};
 ghost use Rattle.definitions.specs.Result.{err, Done};
 ghost use Rattle.lower.specs.Whole as whole;

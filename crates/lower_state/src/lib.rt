@@ -1,4 +1,6 @@
 // What lowering keeps of a function under way, and why it refuses.
+#![tactic(auto)]
+
 ghost use Rattle.std.specs.Prelude.{◌≡◌};
 ghost use Rattle.lower_state.specs.State.{new_ctx, with_counters};
 
@@ -30,7 +32,7 @@ pub const TABLES: usize = 768;
 pub const LOST: usize = MOST + 1;
 
 // The errors of lowering (`LoweringError`); the Rust's `UnsupportedNode` is told apart by its text.
-#[derive(Drop)]
+#[derive(Clone, Copy)]
 pub enum LoweringError {
     UnresolvedType(Name),
     UndefinedVariable(Name),
@@ -49,7 +51,7 @@ pub enum LoweringError {
 // A function under way (`FnCtx`): the place behind the log's last record, which is `LOST` once a record did not fit; its id, the
 // next value, block and local, the current block, and whether that has its terminator. The widest field stands first, so that no gap is
 // copied with it.
-#[derive(Drop)]
+#[derive(Clone, Copy)]
 pub struct FnCtx {
     pub to: usize,
     pub function: FunctionId,

@@ -1,5 +1,7 @@
 // Statements: `lower_stmt` recurses into arms and bodies, and the depth left falls. Scopes go by value: leaving one is using the value
 // from before it.
+#![tactic(auto)]
+
 ghost use Rattle.std.specs.Prelude.{◌≡◌, ◌+◌, ◌≤◌};
 ghost use Rattle.definitions.specs.Grammar.{Class};
 ghost use Rattle.sheet.specs.Passed.{record_kind};
@@ -20,7 +22,7 @@ use lower_state::{FnCtx, Log, LoweringError, Tables};
 use reader::read;
 
 // If: the condition, then both arms. An arm that is absent is one without statements.
-#[cycle(lower_for_lower_if_lower_stmt_lower_stmts_lower_while)]
+#[cycle(stmts)]
 fn lower_if(
     s: &[u8],
     at: usize,
@@ -66,7 +68,7 @@ fn lower_if(
 }
 
 // While: the condition in its header, then the body.
-#[cycle(lower_for_lower_if_lower_stmt_lower_stmts_lower_while)]
+#[cycle(stmts)]
 fn lower_while(
     s: &[u8],
     at: usize,
@@ -100,7 +102,7 @@ fn lower_while(
 }
 
 // For: the bounds, the header, then the body, in which the loop's name is held.
-#[cycle(lower_for_lower_if_lower_stmt_lower_stmts_lower_while)]
+#[cycle(stmts)]
 fn lower_for(
     s: &[u8],
     at: usize,
@@ -144,7 +146,7 @@ fn lower_for(
 }
 
 // The statement at a place, in a block that is not terminated.
-#[cycle(lower_for_lower_if_lower_stmt_lower_stmts_lower_while)]
+#[cycle(stmts)]
 fn lower_stmt(
     s: &[u8],
     at: usize,
@@ -180,7 +182,7 @@ fn lower_stmt(
 }
 
 // The statements from a place to an end. Those after a terminator are skipped.
-#[cycle(lower_for_lower_if_lower_stmt_lower_stmts_lower_while)]
+#[cycle(stmts)]
 pub fn lower_stmts(
     s: &[u8],
     at: usize,

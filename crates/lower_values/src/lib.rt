@@ -1,4 +1,6 @@
 // What an expression comes to, once the values of its parts are known: expressions without expressions in them, operators, fields and calls.
+#![tactic(auto)]
+
 ghost use Rattle.std.specs.Prelude.{◌≡◌};
 ghost use Rattle.lower_values.specs.declared.Lowered.TheVariants as lowered;
 
@@ -10,7 +12,7 @@ pub mod calls; // what is called, and the call of it
 pub mod leaves; // expressions without expressions in them, and what is done with values
 
 // What an expression came to: the state after it, its value and that's type; the state, if it is a call that gives nothing; a refusal.
-#[derive(Drop)]
+#[derive(Clone, Copy)]
 pub enum Lowered {
     Value(FnCtx, ValueId, IrType),
     Void(FnCtx),
@@ -18,14 +20,14 @@ pub enum Lowered {
 }
 
 // The same where a value is asked for.
-#[derive(Drop)]
+#[derive(Clone, Copy)]
 pub enum Valued {
     Value(FnCtx, ValueId, IrType),
     Refused(LoweringError),
 }
 
 // What a name stands for in a call.
-#[derive(Drop)]
+#[derive(Clone, Copy)]
 pub enum Callee {
     Context(usize),
     Poseidon,

@@ -1,4 +1,6 @@
 // Arithmetic on words: "sums, differences and products wrap modulo 2^64, quotients drop the remainder, comparisons give 1 or 0".
+#![tactic(auto)]
+
 ghost use Rattle.std.specs.Prelude.{◌≡◌, ◌*◌};
 ghost use Rattle.definitions.specs.Ast.{BinOp};
 ghost use Rattle.definitions.specs.Bench.{wrap, binary_word};
@@ -9,7 +11,7 @@ ghost use Rattle.machine_arithmetic.specs.Numbers.{word_or_stop};
 use format::kinds;
 
 // What a binary instruction gives.
-#[derive(Drop)]
+#[derive(Clone, Copy)]
 pub enum Number {
     Word(u64),
     ZeroDivisor,

@@ -1,4 +1,6 @@
 // Working memory in lent bytes, a cell for each word: the word, little-endian, and a byte that is 0 where the word is unset.
+#![tactic(auto)]
+
 ghost use Rattle.std.specs.Prelude.{◌≡◌, ◌+◌, ◌≤◌, length};
 ghost use Rattle.machine_memory.specs.Cells.{cell_width, word_of, cell, stored, emptied, cleared};
 
@@ -8,7 +10,7 @@ const WORD: usize = 8;
 pub const CELL: usize = WORD + 1;
 
 // What a cell holds.
-#[derive(Drop)]
+#[derive(Clone, Copy)]
 pub enum Word {
     Set(u64),
     Unset,

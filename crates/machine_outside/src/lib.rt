@@ -1,5 +1,7 @@
 // The bench's instructions on what is lent, a function for each kind: state words, outside results, context words; and Store, which ends the run.
 // `top` has been moved on behind the instruction at q.
+#![tactic(auto)]
+
 ghost use Rattle.std.specs.Prelude.{◌≡◌, ◌+◌, length};
 ghost use Rattle.program_nodes.specs.Offsets.{own_at};
 ghost use Rattle.machine_state.specs.Running.{InstrReady, Does, DoesState, DoesOutside};
@@ -19,7 +21,7 @@ const NEGATIVE: usize = 2147483648;
 const POSEIDON_RIGHT: usize = program::POSEIDON_LEFT + format::ID;
 
 // The three context words.
-#[derive(Drop)]
+#[derive(Clone, Copy)]
 pub struct Context {
     pub sender: u64,
     pub nonce: u64,

@@ -1,4 +1,6 @@
 // Which cell of its function's frame a value has. A function's ids are those of its parameters, then its result ids, in order.
+#![tactic(auto)]
+
 ghost use Rattle.std.specs.Prelude.{◌≡◌, false, map, ◌+◌, ◌^◌, ◌≤◌, ◌<◌, length};
 ghost use Rattle.definitions.specs.Records.{opt_from};
 ghost use Rattle.program_nodes.specs.Positions.{instrs_here, BlockFrom, ir_of, FunctionHere};
@@ -9,14 +11,14 @@ use ir::ValueId;
 use program_nodes::Function;
 
 // How many ids there are, and a number above all of them.
-#[derive(Drop)]
+#[derive(Clone, Copy)]
 pub struct Ids {
     pub count: usize,
     pub above: usize,
 }
 
 // A search for an id: how many ids it has passed, a number above all of them, and whether it has met the one that is sought.
-#[derive(Drop)]
+#[derive(Clone, Copy)]
 struct Seek {
     count: usize,
     above: usize,

@@ -1,4 +1,6 @@
 // What the bench keeps of the function under way, and its words in its frame of working memory.
+#![tactic(auto)]
+
 ghost use Rattle.std.specs.Prelude.{◌≡◌, ℕ, ◌<◌, length};
 ghost use Rattle.definitions.specs.Bench.{Machine, go_to};
 ghost use Rattle.definitions.specs.Records.{opt_from};
@@ -13,7 +15,7 @@ use program_nodes::Function;
 
 // The function under way: the next record and the end of its block (0 if it has no block to start in); where its frame starts, how many value ids and locals
 // it has, whether its ids are dense; how many functions wait, and how many outside results are used.
-#[derive(Drop)]
+#[derive(Clone, Copy)]
 pub struct UnderWay {
     pub function: Function,
     pub q: usize,
@@ -27,7 +29,7 @@ pub struct UnderWay {
 }
 
 // Why a run stops: an outcome's cause, or too little memory.
-#[derive(Drop)]
+#[derive(Clone, Copy)]
 pub enum Halt {
     Returned(u64),
     ReturnedNothing,
@@ -43,7 +45,7 @@ pub enum Halt {
 }
 
 // What a step gives.
-#[derive(Drop)]
+#[derive(Clone, Copy)]
 pub enum Advance {
     Going(UnderWay),
     Stopped(Halt),

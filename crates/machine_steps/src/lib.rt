@@ -1,4 +1,6 @@
 // The bench's instructions on the frame's words and its terminators, without calls, a function for each kind. `top` has been moved on behind the instruction at q.
+#![tactic(auto)]
+
 ghost use Rattle.std.specs.Prelude.{◌+◌, ◌*◌, ◌≤◌, ◌<◌, length};
 ghost use Rattle.program_nodes.specs.Offsets.{fields_at, own_at, event_args_at};
 ghost use Rattle.program_nodes.specs.Positions.{stop_here};

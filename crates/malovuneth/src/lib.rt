@@ -1,6 +1,8 @@
 // The operations for C and Rust to call, in a static library. Each writes its answer's six numbers: 0 or the refusal's number, its details
 // in order, then zeros; and it gives the first of them. include/malovuneth.h declares `malovuneth_lower`, `malovuneth_verify` and
 // `malovuneth_version`, a slice being a pointer and a length; the other two are for the differential test.
+#![tactic(auto)]
+
 ghost use Rattle.std.specs.Prelude.{◌≡◌, get_or, length, take};
 ghost use Rattle.definitions.specs.Answers.{check_contract, lowered_numbers, lower_sheet, numbers_of, output_of, padded, refuse_form, verify_sheet};
 ghost use Rattle.definitions.specs.ContractSheet.{refusal3};

@@ -1,12 +1,14 @@
 // What an answer says, as numbers: for C and Rust to read, and for the line that is printed. Here ids, places and types become numbers; each operation has
 // the numbers of its own cases.
+#![tactic(auto)]
+
 ghost use Rattle.std.specs.Prelude.{[], ◌∷◌, ◌/◌, ◌%◌};
 ghost use Rattle.numbers.specs.Tells.{Tells};
 
 use ir::PER_NAME;
 
 // The first `count` of the list are the answer's numbers, a refusal's own and its details; zeros stand behind them. Acceptance has none.
-#[derive(Drop)]
+#[derive(Clone, Copy)]
 pub struct Numbers {
     pub count: usize,
     pub list: [usize; 6],

@@ -1,4 +1,6 @@
 // The records of a program sheet that passed 40, at their places.
+#![tactic(auto)]
+
 ghost use Rattle.std.specs.Prelude.{◌≡◌, ◌+◌, ◌≤◌, length};
 ghost use Rattle.std.proofs.Math.Option.{some};
 ghost use Rattle.program_nodes.specs.Offsets.{kind_at};
@@ -8,7 +10,7 @@ use format::program;
 use ir::{NO_TYPE, Name};
 
 // A function of a program sheet: its place, where its first block starts, where it stops, and its name.
-#[derive(Drop)]
+#[derive(Clone, Copy)]
 pub struct Function {
     pub at: usize,
     pub first: usize,

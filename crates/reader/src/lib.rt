@@ -1,4 +1,6 @@
 // Numbers of n bytes in a slice, little-endian. Every law is shown for any n; callers use 2, 4 and 8.
+#![tactic(auto)]
+
 ghost use Rattle.std.specs.Prelude.{◌≡◌, ◌+◌, ◌^◌, ◌≤◌, ◌<◌, length};
 ghost use Rattle.definitions.specs.Fields.{le, Bytes};
 
@@ -25,7 +27,7 @@ fn number(s: &[u8], at: usize, n: usize) -> usize
 }
 
 // The caller's bytes together with a position in them.
-#[derive(Drop)]
+#[derive(Clone, Copy)]
 pub struct Reader<'a> {
     pub src: &'a [u8],
     pub at: usize,

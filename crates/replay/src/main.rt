@@ -3,6 +3,8 @@
 // form and limits, as lowering does before its walk.
 // tests/replay.sh makes the list that the program is run on, and the answers expected.
 // No contract can say which bytes are read or written: `lines::lower_line`, `verify_line` and `contract_line` have the contracts on the bytes.
+#![tactic(auto)]
+
 ghost use Rattle.std.specs.Prelude.{◌≡◌, ◌≤◌, length, take};
 ghost use Rattle.console.specs.Input.{InputFits};
 
@@ -25,7 +27,7 @@ fn read_sheet(n: usize, sheet: &mut [u8]) -> Input
 const LONGEST: usize = MOST + 1;
 
 // What is asked of the next sheet, and its length. The end of the input asks nothing, which is 0, and so does a read that failed.
-#[derive(Drop)]
+#[derive(Clone, Copy)]
 struct Head {
     asked: u8,
     length: usize,

@@ -1,5 +1,7 @@
 // What is asked of a sheet before anything is done with it: the form of both sheets (refusals 3 and 40), and the length (1) and the
 // limits (4) of a contract sheet. 3, 4 and 40 have a place.
+#![tactic(auto)]
+
 ghost use Rattle.std.specs.Prelude.{◌≡◌};
 ghost use Rattle.definitions.specs.Answers.{check_contract};
 ghost use Rattle.definitions.specs.ContractSheet.{refusal3, refusal4};
@@ -14,21 +16,21 @@ mod records; // refusals 3 and 40
 mod tables; // a row for each record kind
 
 // Good, or the place of the fault.
-#[derive(Drop)]
+#[derive(Clone, Copy)]
 pub enum Form {
     Good,
     Bad(usize),
 }
 
 // Within the limits, or the place of the first record that is over one.
-#[derive(Drop)]
+#[derive(Clone, Copy)]
 pub enum LimitCheck {
     Within,
     Over(usize),
 }
 
 // What lowering asks of a contract sheet before the walk.
-#[derive(Drop)]
+#[derive(Clone, Copy)]
 pub enum ContractCheck {
     Passed,
     TooLong,

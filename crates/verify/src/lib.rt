@@ -1,4 +1,6 @@
 // Verifying (`ir/verify.rs`): a program sheet to the verifier's answer.
+#![tactic(auto)]
+
 ghost use Rattle.std.specs.Prelude.{◌≡◌, ◌+◌, ◌≤◌, length};
 ghost use Rattle.definitions.specs.Answers.{verify_sheet};
 ghost use Rattle.definitions.specs.Verify.{verify_function, verify_functions};
@@ -16,7 +18,7 @@ use program_nodes::Function;
 use verify_state::{Checked, VerifyError};
 
 // The answer to a sheet. `Malformed` has the place of the fault.
-#[derive(Drop)]
+#[derive(Clone, Copy)]
 pub enum Answer {
     Accepted,
     TooLong,

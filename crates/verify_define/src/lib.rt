@@ -1,4 +1,6 @@
 // The first pass of verifying: each value of a function is defined once, and what has a result gives one.
+#![tactic(auto)]
+
 ghost use Rattle.std.specs.Prelude.{◌≤◌, length};
 ghost use Rattle.program_nodes.specs.Positions.{InstrPlace, BlockFrom, FunctionHere};
 ghost use Rattle.verify_state.specs.Errors.{checked_of};

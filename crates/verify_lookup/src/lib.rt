@@ -1,4 +1,6 @@
 // The definition of a value, and whether a block or a function has an id: the searches that references stand on.
+#![tactic(auto)]
+
 ghost use Rattle.std.specs.Prelude.{◌≡◌, ◌≤◌, ◌<◌, eqb, length};
 ghost use Rattle.definitions.specs.Ir.{contains};
 ghost use Rattle.definitions.specs.Records.{read_records};

@@ -1,4 +1,6 @@
 // The verifier's answer as numbers: one place has the number of each case.
+#![tactic(auto)]
+
 ghost use Rattle.std.specs.Prelude.{◌≡◌, ◌/◌, ◌%◌};
 ghost use Rattle.definitions.specs.Answers.{numbers_of, verify_refusal, got_tag, got_name};
 ghost use Rattle.definitions.specs.Result.{err, Done};

@@ -1,4 +1,6 @@
 // What an instruction or a terminator refers to, for the second pass of verifying: values, blocks, functions and locals that there are; and the types that it asks.
+#![tactic(auto)]
+
 ghost use Rattle.std.specs.Prelude.{◌≡◌, ◌+◌, ◌-◌, ◌*◌, ◌/◌, ◌≤◌, length};
 ghost use Rattle.std.proofs.Math.Option.{some};
 ghost use Rattle.definitions.specs.Fields.{le};

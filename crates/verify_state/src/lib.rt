@@ -1,15 +1,17 @@
 // Why the verifier refuses, and what a part of its check gives.
+#![tactic(auto)]
+
 use ir::{BlockId, FunctionId, IrType, LocalId, Name, ValueId};
 
 // The type of a returned value, if there is one.
-#[derive(Drop)]
+#[derive(Clone, Copy)]
 pub enum Got {
     Type(IrType),
     Nothing,
 }
 
 // The Rust's `VerifyError`, the function's name first. `ResultOnNone` takes the place of a panic and has the instruction's kind.
-#[derive(Drop)]
+#[derive(Clone, Copy)]
 pub enum VerifyError {
     UndefinedValue(Name, ValueId),
     DuplicateValueDef(Name, ValueId),
@@ -24,7 +26,7 @@ pub enum VerifyError {
 }
 
 // What a part of the check gives: the Rust's `Result<(), VerifyError>`.
-#[derive(Drop)]
+#[derive(Clone, Copy)]
 pub enum Checked {
     Passed,
     Failed(VerifyError),

@@ -1,4 +1,6 @@
 // Numbers of n bytes written to a slice, little-endian, and runs of bytes. Every law is shown for any n; callers use 2, 4 and 8.
+#![tactic(auto)]
+
 ghost use Rattle.std.specs.Prelude.{◌≡◌, ◌+◌, ◌-◌, ◌≤◌, ◌<◌, length, take, drop, replicate};
 ghost use Rattle.std.proofs.lemmas.List.Edits.{sets};
 ghost use Rattle.definitions.specs.Fields.{bytes};

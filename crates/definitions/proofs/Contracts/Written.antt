@@ -36,6 +36,7 @@ pairs_back h = items_back name_and_type param_pair param_of (λ a b. refl) h
 struct_row : Remade Class.struct 3 (single (up_to 65534) ∷ listed name_and_type ∷ []) done
 unfolding again
 struct_row at _ _ (hcons (fit_one (fit_small l m)) (hrest g hnil)) over = rw (pairs_back g)
+struct_row at _ _ (hcons (fit_one (fit_small l m)) (hcons x _)) _ = elim x [ ]
 
 opt_back : {i : Item} → FitItem optional i → opt (opt_of i) ≡ i
 opt_back fit_none = refl

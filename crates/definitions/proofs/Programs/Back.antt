@@ -11,7 +11,7 @@ use Rattle.definitions.specs.Grammar.{Class, number, Field, done, ir_type, liste
 use Rattle.definitions.specs.InstrTable.{kind_of}
 use Rattle.definitions.specs.Ir.{BasicBlock, InstrNode, Instruction, IrFunction, IrProgram, Terminator}
 use Rattle.definitions.specs.ProgramSheet.{ir_params_at, types_at, block_of, block_tree, first_of, function_name_of, function_name_tree, ir_function_of, ir_function_tree, instr_node_of, instr_of, instr_tree, opt_term_tree, param_item, program_of, program_tree, term_of, values_of}
-use Rattle.definitions.specs.Records.{pick, write_values, num_at, type_at, Tree, Trees, gather, item, kind_in, node, opt, row, row_in, small, tcons, tnil, treesOf, ty}
+use Rattle.definitions.specs.Records.{pick, write_tree, write_values, num_at, type_at, Tree, Trees, gather, item, kind_in, node, opt, row, row_in, small, tcons, tnil, treesOf, ty}
 use Rattle.definitions.proofs.Sheets.Trees.{placed_tree, placed_trees}
 
 map_back : {A B : Type 0} (f : A → B) (g : B → A) → ((a : A) → g (f a) ≡ a) → (l : List A) → map g (map f l) ≡ l
@@ -144,7 +144,7 @@ forget : {A : Type 0} (lo hi : ℕ) (f : Tree → A) → ((at : ℕ) (t : Tree) 
 unfolding placed_tree
 forget lo hi f h at tnil = refl
 forget {A} lo hi f h at (tcons (node p k vs ts) us) =
-    ap₂ (λ (x : A) (y : List A). pick (leb lo k) (pick (leb k hi) (x ∷ y) y) y) (h at (node p k vs ts)) (forget lo hi f h _ us)
+    ap₂ (λ (x : A) (y : List A). pick (leb lo k) (pick (leb k hi) (x ∷ y) y) y) (h at (node p k vs ts)) (forget lo hi f h (at + length (write_tree (node p k vs ts))) us)
 
 instr_forget : (at : ℕ) (t : Tree) → instr_node_of (placed_tree at t) ≡ instr_node_of t
 unfolding placed_tree

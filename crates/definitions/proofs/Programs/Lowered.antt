@@ -147,6 +147,7 @@ term_fits Terminator.Unreachable r g = tt
 
 -- blocks by their ids
 id_low : (k : ℕ) (bs : List BasicBlock) → All CodeFits bs → In k (block_ids bs) → k < 65535
+id_low k [] _ h = elim h [ ]
 id_low k (b ∷ bs) (acons p c) (here e) = omega (arith, p.0, e)
 id_low k (b ∷ bs) (acons p c) (there i) = id_low k bs c i
 

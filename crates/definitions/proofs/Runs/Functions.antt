@@ -161,7 +161,7 @@ unfolding lower_contract
 contract_ok K p e = taking (lower_functions K 0 K.functions) _ e λ fs ef e₁. subst (λ (q : IrProgram). Each (fns K) 0 q.functions) (ok_inj e₁) (functions_ok K 0 K.functions fs ef)
 
 -- ---- demand 3, the run
-member_good : {F i : ℕ} {f : IrFunction} {gs : List IrFunction} → Memᴰ f gs → Each F i gs → GoodFn F f
+member_good : {F : ℕ} {f : IrFunction} {i : ℕ} {gs : List IrFunction} → Memᴰ f gs → Each F i gs → GoodFn F f
 member_good {F} (Memᴰ.head e) (one_more o rest) = subst (GoodFn F) (sym e) o.good
 member_good (Memᴰ.tail a) (one_more o rest) = member_good a rest
 

@@ -20,6 +20,7 @@ fns K = length K.functions
 
 -- ---- values and locals without their types
 typed_in : (v : ℕ) (H : List Value) → In v (ids H) → (t : IrType) × In (v, t) H
+typed_in v [] h = elim h [ ]
 typed_in v (x ∷ H) (here e) = (x.1, here (λ i. (e i, x.1)))
 typed_in v (x ∷ H) (there i) = let h = typed_in v H i in (h.0, there h.1)
 

@@ -68,6 +68,7 @@ in_one P p (here e) = subst P e p
 in_one P p (there h) = absurd (in_nil h)
 
 pub in_left : {A : Type 0} (a b : List A) (v : A) → In v a → In v (a ++ b)
+in_left [] b v h = elim h [ ]
 in_left (x ∷ a) b v (here e) = here e
 in_left (x ∷ a) b v (there h) = there (in_left a b v h)
 
@@ -224,6 +225,7 @@ holds_result (some x) w H hs h v (here e) = holds_here x w v hs e
 holds_result (some x) w H hs h v (there i) = holds_cons x w v hs (h v i)
 
 holds_params : (ps : List (ℕ × IrType)) (ws : List ℕ) → length ws ≡ length ps → (v : ℕ) → In v (ids ps) → holds v (params_held ps ws) ≡ true
+holds_params [] ws e v i = elim i [ ]
 holds_params (p ∷ ps) [] e v i = absurd (omega (arith, e))
 holds_params (p ∷ ps) (w ∷ ws) e v (here q) = holds_here p.0 w v (params_held ps ws) q
 holds_params (p ∷ ps) (w ∷ ws) e v (there i) = holds_cons p.0 w v (params_held ps ws) (holds_params ps ws (omega (arith, e)) v i)

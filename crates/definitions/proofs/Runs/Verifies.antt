@@ -77,6 +77,7 @@ distinct_right [] b d = d
 distinct_right (x ∷ a) b d = distinct_right a b d.1
 
 distinct_apart : (a b : List ℕ) → Distinct (a ++ b) → (v : ℕ) → In v a → In v b → ⊥
+distinct_apart [] b d v h i = elim h [ ]
 distinct_apart (x ∷ a) b d v (here e) i = d.0 (in_right a b x (rw e i))
 distinct_apart (x ∷ a) b d v (there h) i = distinct_apart a b d.1 v h i
 
@@ -209,6 +210,7 @@ module _ (F L : ℕ) (fids : List ℕ) (all : (f : ℕ) → f < F → contains f
   held_sub H (n ∷ ns) h s = held_sub (with_result n.result H) ns (with_sub n.result (results ns) h s) (with_rest n.result (results ns) s)
 
 in_contains : (l : List ℕ) {n : ℕ} → In n l → contains n l ≡ true
+in_contains [] h = elim h [ ]
 in_contains (x ∷ l) {n} (here e) = rw (eq-eqb x n e, contains)
 in_contains (x ∷ l) {n} (there h) = by_test (eqb x n) (λ q. rw (q, contains)) (λ q. rw (q, contains) (in_contains l h))
 

@@ -61,7 +61,7 @@ module _ (k : ℕ) (q : Pattern) (at n v b : ℕ) {c : Class} {fs : List Field} 
   start_is : start_at s at end q ≡ starts (at + 6 + v) (at + (6 + b)) p q'
   unfolding start_at start_row start_if
   start_is =
-      rw (size, kind, le-leb 6 (end - at) (omega arith), le-leb 6 (6 + b) (omega arith), le-leb (6 + b) (end - at) (omega arith), r, start_row, a, past_is, start_if)
+      rw (size, kind, le-leb 6 (end - at) (omega arith), le-leb 6 (6 + b) (omega arith), le-leb (6 + b) (end - at) (omega arith), r, a, past_is)
 
   one_step : TreesOk (suc n) q (tcons (node at k vs ts) us) s at end
   unfolding records_from trees_from check_rest and_then read_node row_fields

@@ -56,6 +56,7 @@ id_in_lem (here e) = here (ap (λ (x : Value). x.0) e)
 id_in_lem (there i) = there (id_in_lem i)
 
 ids_left : (vs H : List Value) → Sub (ids vs) (ids (vs ++ H))
+ids_left [] H v h = elim h [ ]
 ids_left (x ∷ vs) H v (here e) = here e
 ids_left (x ∷ vs) H v (there i) = there (ids_left vs H v i)
 
