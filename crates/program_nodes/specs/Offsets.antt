@@ -38,19 +38,19 @@ abbrev pub fields_at : ℕ
 fields_at = own_start
 
 -- an instruction: its result, then its own fields
-abbrev pub field_own : ℕ
-field_own = fields_at + 2
+abbrev pub own_at : ℕ
+own_at = fields_at + 2
 
 -- a binary instruction: its type, then its operands
 abbrev pub left_at : ℕ
-left_at = field_own + 4
+left_at = own_at + 4
 
 abbrev pub right_at : ℕ
 right_at = left_at + 2
 
 -- the arguments of Call and Emit
 abbrev pub call_args_at : ℕ
-call_args_at = field_own + 6
+call_args_at = own_at + 6
 
 abbrev pub event_args_at : ℕ
-event_args_at = field_own + 2
+event_args_at = own_at + 2
