@@ -1,6 +1,5 @@
 -- Storage fields take ten bytes each, and come first: the i-th stands at 8 + 10 * i. Assumes nothing.
-use mathlib.Core.Path.{◌≡◌, refl, ap, sym, ◌∙◌}
-use mathlib.Core.Bool.{Bool, true, false}
+use mathlib.Core.Path.{◌≡◌, refl, ap, ◌∙◌}
 use mathlib.Core.List.{List, [], ◌∷◌}
 use Prim.Native.Nat.{ℕ, ◌+◌, ◌*◌, ◌/◌, ◌%◌, ◌≤◌, ◌<◌}
 use native.Mathlib.Omega.{arith}
@@ -19,7 +18,7 @@ use Rattle.sheet.specs.Passed.{ContractPassed}
 use Rattle.contract_nodes.proofs.Children.{opened, nothing_left}
 use Rattle.contract_lookup.specs.declared.Found.{Found}
 use Rattle.contract_lookup.specs.declared.Found.TheVariants as found
-use Rattle.contract_lookup.specs.Answers.{found_in, found_of, stored_at, or_earlier, last_of}
+use Rattle.contract_lookup.specs.Answers.{found_in, stored_at, or_earlier, last_of}
 use Rattle.contract_lookup.proofs.Lasts.{Walking, begun, walked, stopped, top_at, has_name, has_not, this_kind, no_place, at_place}
 
 top_range : {k : ℕ} → TopKind k → (2 ≤ k) × (k ≤ 4)

@@ -1,6 +1,6 @@
 -- From the record that was found to the answer: a slot, a struct, a signature. Assumes nothing.
 use mathlib.Core.Path.{◌≡◌, refl, ap}
-use mathlib.Core.Option.{Option, none, some}
+use mathlib.Core.Option.{none, some}
 use mathlib.Core.List.{List}
 use Prim.Native.Nat.{ℕ}
 use Rattle.definitions.specs.Ast.{StorageField, Struct, Function, Contract}

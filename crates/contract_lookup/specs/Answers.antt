@@ -1,5 +1,5 @@
 -- The answers of looking a name up in the words of the definitions. Assumes nothing: these are definitions.
-use Rattle.std.specs.Prelude.{ℕ, ◌*◌, ◌/◌, ◌%◌, eqb, List}
+use Rattle.std.specs.Prelude.{ℕ, ◌/◌, ◌%◌, eqb, List}
 use Rattle.std.proofs.Math.Option.{Option, none, some}
 use Rattle.definitions.specs.Analyze as analyze
 use Rattle.definitions.specs.Ast.{StorageField, Param, Function, Contract}

@@ -1,14 +1,11 @@
 -- From lowering's answer to its line: a sheet that was accepted fits, and stands at the start of the output; a refusal has its numbers.
 -- Assumes nothing.
 use mathlib.Core.Path.{◌≡◌, refl, sym, ap, subst}
-use mathlib.Core.Logic.{⊎_elim}
 use mathlib.Core.Bool.{Bool, true, false, ◌&&◌}
 use mathlib.Core.List.{List, [], ◌∷◌}
 use Prim.Native.Nat.{ℕ, ◌≤◌}
 use native.Mathlib.Omega.{arith}
 use borrow.Author.Tests.{leb-true}
-use types.Run.{OneOf}
-use denote.Enum.Declared.{tag_of}
 use lib.Dec.{leb}
 use lib.ListN.{length, take}
 use Rattle.definitions.specs.Result.{Result, err, ok, map_err}
@@ -22,7 +19,6 @@ use Rattle.definitions.proofs.Results.{ok_inj, err_ok, taking, taking_then, taki
 use Rattle.lower.specs.Whole.{answer_of}
 use Rattle.lower.specs.declared.Answer.{Answer}
 use Rattle.lower.specs.declared.Answer.TheVariants as answer
-use Rattle.lower.specs.contracts.Answer as declared
 use Rattle.line_text.specs.Lined.{Lined}
 
 -- an accepted sheet has 32,768 bytes at most
@@ -50,15 +46,15 @@ accepted_line_is (ok b) out size n h e q =
 accepted_line_is (err x) out size n h e q = absurd (err_ok (sym e))
 
 -- REFUSED: an answer that is none of `Accepted`
-not_accepted : (r : Answer) → OneOf (1 ∷ 2 ∷ 3 ∷ 4 ∷ 5 ∷ []) (tag_of declared.the_type r) → (n : ℕ) → answer_of r ≡ ok n → ⊥
-not_accepted (answer.Accepted k) h n e = ⊎_elim (λ a. omega arith) (⊎_elim (λ a. omega arith) (⊎_elim (λ a. omega arith) (⊎_elim (λ a. omega arith) (λ a. omega arith)))) h
+not_accepted : (r : Answer) → ((k : ℕ) → r ≡ answer.Accepted k → ⊥) → (n : ℕ) → answer_of r ≡ ok n → ⊥
+not_accepted (answer.Accepted k) h n e = h k refl
 not_accepted answer.TooLong h n e = err_ok e
 not_accepted (answer.Malformed p) h n e = err_ok e
 not_accepted (answer.OverLimit p) h n e = err_ok e
 not_accepted (answer.Refused x) h n e = err_ok e
 not_accepted answer.NoRoom h n e = err_ok e
 
-pub refused_line_is : (a : answers.Answer) (r : Answer) → OneOf (1 ∷ 2 ∷ 3 ∷ 4 ∷ 5 ∷ []) (tag_of declared.the_type r) → answer_of r ≡ length_of a → line_of (length_numbers (answer_of r)) ≡ lowered_line a
+pub refused_line_is : (a : answers.Answer) (r : Answer) → ((k : ℕ) → r ≡ answer.Accepted k → ⊥) → answer_of r ≡ length_of a → line_of (length_numbers (answer_of r)) ≡ lowered_line a
 refused_line_is (ok b) r h e = absurd (not_accepted r h (length b) e)
 refused_line_is (err x) r h e = ap (λ (o : Result Refusal ℕ). line_of (length_numbers o)) e
 

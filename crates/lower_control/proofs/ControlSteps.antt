@@ -32,7 +32,6 @@ use Rattle.lower_values.specs.declared.Valued.{Valued}
 use Rattle.lower_values.specs.declared.Valued.TheVariants as valued
 use Rattle.lower_flow.specs.Flows.{blocks_of, blocks_in, local_in, BlocksAmong, Changes, MakesBlocks, MakesLocal, MakesBounds}
 use Rattle.lower_flow.specs.declared.Blocks.{Blocks}
-use Rattle.lower_flow.specs.declared.Bounds.{Bounds}
 use Rattle.lower_flow.specs.declared.MadeBlocks.{MadeBlocks}
 use Rattle.lower_flow.specs.declared.MadeBlocks.TheVariants as blocks
 use Rattle.lower_flow.specs.declared.MadeLocal.{MadeLocal}

@@ -9,7 +9,7 @@ use Rattle.definitions.specs.Fields.{le}
 use Rattle.definitions.specs.Grammar.{Pattern}
 use Rattle.definitions.specs.Records.{pick, Form, Good, Bad, and_then, may_end, Next, nothing, starts, start_if, start_at, past_all, check_rest, records_from, check_records}
 use Rattle.definitions.proofs.Sheets.Passed.{Ends, all_past, bound_enough}
-use Rattle.sheet.specs.Codes.{place_or_none, fields_in, pattern_of, coded, Leaves, RowIs, fitting_kind, class_in, fixed_in, children_in}
+use Rattle.sheet.specs.Codes.{place_or_none, fields_in, pattern_of, coded, Leaves, RowIs, fitting_kind, class_in, children_in}
 use Rattle.sheet.specs.Forms.{fault_of}
 use Rattle.sheet.proofs.Heads.{Begun, not_allowed, begun}
 

@@ -7,7 +7,7 @@ use Rattle.definitions.specs.Grammar.{Class, Field, Pattern, rows}
 use Rattle.definitions.specs.Records.{row_in, row_fields, fields_end, read_values}
 use Rattle.definitions.specs.Fine.{Head, Fine, ends, goes}
 use Rattle.definitions.proofs.Sheets.Passed.{read_step}
-use Rattle.sheet.specs.Passed.{Passed, Node, record_kind, stop_of, body_of, values_at, children_of}
+use Rattle.sheet.specs.Passed.{Passed, Node, record_kind, stop_of, body_of, values_at}
 
 unfoldable pub node_of : {c : Class} {fs : List Field} {p r : Pattern} {s : List ℕ} {at end b stop : ℕ} → Head s at end c fs p b stop → Fine s b stop p → Fine s stop end r → Node s at end
 unfolding body_of values_at row_fields

@@ -1,16 +1,15 @@
 -- What stands between a record's kind and its own fields. Assumes nothing.
 use mathlib.Core.Path.{◌≡◌, refl, sym}
-use mathlib.Core.Bool.{Bool, true, false}
 use mathlib.Core.List.{List}
-use mathlib.Core.Option.{Option, none, some}
+use mathlib.Core.Option.{none, some}
 use Prim.Native.Nat.{ℕ, ◌+◌, ◌-◌, ◌<◌, ◌≤◌}
 use native.Mathlib.Omega.{arith}
 use lib.Dec.{leb}
 use borrow.Author.Tests.{le-leb, lt-leb, leb-true, ne_eqb}
 use Rattle.definitions.specs.Grammar.{Field, number, origin, origin_width}
-use Rattle.definitions.specs.Records.{pick, size_of, ok_item, field_end, past, past_all}
+use Rattle.definitions.specs.Records.{pick, size_of, ok_item, past, past_all}
 use Rattle.definitions.proofs.Results.{by_test, some_none}
-use Rattle.definitions.proofs.Sheets.Passed.{one_past, field_within, past_on}
+use Rattle.definitions.proofs.Sheets.Passed.{one_past, past_on}
 use Rattle.sheet.specs.Codes.{place_or_none, before_own, with_origin}
 use Rattle.sheet.proofs.Fields.{single_free}
 

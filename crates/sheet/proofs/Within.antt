@@ -9,7 +9,7 @@ use lib.Dec.{leb, eqb}
 use lib.ListN.{length}
 use borrow.Author.Tests.{le-leb, lt-leb, eqb-true}
 use Rattle.definitions.specs.Fields.{le}
-use Rattle.definitions.specs.Records.{pick, Form, Good, Bad, and_then, read_records, items_at}
+use Rattle.definitions.specs.Records.{pick, Good, Bad, and_then, read_records, items_at}
 use Rattle.definitions.specs.ContractSheet.{count_trees, Counts, none_before, Measured, over, limit_tree, limit_trees}
 use Rattle.definitions.proofs.Results.{by_test}
 use Rattle.definitions.proofs.Contracts.Limits.{measured}

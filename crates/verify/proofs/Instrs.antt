@@ -29,9 +29,9 @@ room {kind} {stop} q K n t h e = omega (arith, rw e at h, leb-true (own_at + n) 
 pub record Fixed (q stop kind : ℕ) : Type 0 where
   pub load : kind ≡ 71 → q + (own_at + 14) ≤ stop
   pub store : kind ≡ 72 → q + (own_at + 12) ≤ stop
-  pub state_write_lem : kind ≡ 74 → q + (own_at + 6) ≤ stop
-  pub read_local_lem : kind ≡ 75 → q + (own_at + 6) ≤ stop
-  pub write_local_lem : kind ≡ 76 → q + (own_at + 4) ≤ stop
+  pub state_write : kind ≡ 74 → q + (own_at + 6) ≤ stop
+  pub read_local : kind ≡ 75 → q + (own_at + 6) ≤ stop
+  pub write_local : kind ≡ 76 → q + (own_at + 4) ≤ stop
   pub call : kind ≡ 77 → q + (own_at + 6) ≤ stop
   pub assert : kind ≡ 78 → q + (own_at + 2) ≤ stop
   pub poseidon : kind ≡ 79 → q + (own_at + 4) ≤ stop
@@ -42,9 +42,9 @@ unfolding size_here
 fixed_fields q h = record {
   load = room q 71 14 refl h;
   store = room q 72 12 refl h;
-  state_write_lem = room q 74 6 refl h;
-  read_local_lem = room q 75 6 refl h;
-  write_local_lem = room q 76 4 refl h;
+  state_write = room q 74 6 refl h;
+  read_local = room q 75 6 refl h;
+  write_local = room q 76 4 refl h;
   call = room q 77 6 refl h;
   assert = room q 78 2 refl h;
   poseidon = room q 79 4 refl h;

@@ -1,0 +1,30 @@
+-- `analyze_env::lookup`: along the links of the name's chain. Assumes nothing.
+use mathlib.Core.Path.{ap, ◌∙◌}
+use mathlib.Core.Option.{some}
+use native.Mathlib.Omega.{arith}
+use lib.ListN.{length}
+use borrow.Author.Rules.{rules}
+use Rattle.analyze_env.specs.Known.{name_in, link_in}
+use Rattle.analyze_env.proofs.Chains.{Looking, begun, hit, falls, miss, none_left}
+use Rattle.analyze_env.proofs.lookup.Goals as goal
+
+pub loop-i-init : goal.loop-i-init
+loop-i-init c = begun c.requires c.chain_of-chain.ensures
+
+pub returns-then-e-wanted : goal.returns-then-e-wanted
+unfolding name_in
+returns-then-e-wanted c =
+    ap some c.type_in.ensures ∙ hit c.requires c.loop-i.invariant c.loop-i-test.true c.if-e-wanted.true
+
+pub loop-i-smaller : goal.loop-i-smaller
+unfolding link_in
+loop-i-smaller c =
+    falls c.requires c.loop-i.invariant c.loop-i-test.true
+
+pub loop-i-preserved : goal.loop-i-preserved
+unfolding name_in link_in
+loop-i-preserved c =
+    miss c.requires c.loop-i.invariant c.loop-i-test.true c.if-e-wanted.false
+
+pub returns : goal.returns
+returns c = none_left c.loop-i.invariant c.loop-i-test.false

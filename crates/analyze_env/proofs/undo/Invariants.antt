@@ -1,0 +1,15 @@
+-- `analyze_env::undo`: the newest entry's chain gets back the head from before it. Assumes nothing.
+use mathlib.Core.Path.{◌≡◌, sym}
+use Prim.Native.Nat.{◌≤◌}
+use native.Mathlib.Omega.{arith}
+use lib.ListN.{length, length-set}
+use borrow.Author.Rules.{rules}
+use Rattle.analyze_env.specs.Known.{Known, name_in, link_in}
+use Rattle.analyze_env.proofs.Chains.{dropped}
+use Rattle.analyze_env.proofs.undo.Given as goal
+
+abbrev pub invariant-loop-n : goal.invariant-loop-n
+invariant-loop-n l = Known l.entries l.heads l.n × (length l.heads ≡ length l.initial.heads) × (l.mark ≤ l.n)
+
+abbrev pub decreases-loop-n : goal.decreases-loop-n
+decreases-loop-n l = l.n

@@ -1,0 +1,15 @@
+-- `plain::analyze_constrain`: its expression has a type. Assumes nothing.
+use borrow.Author.Rules.{rules}
+use Rattle.contract_nodes.proofs.Children.{bounds}
+use Rattle.contract_nodes.proofs.Stmts.{constrain_at}
+use Rattle.analyze_simple.proofs.PlainSteps.{constrain_done}
+use Rattle.analyze_simple.proofs.plain.analyze_constrain.Goals as goal
+
+pub overflow_sub-depth : goal.overflow_sub-depth
+overflow_sub-depth c = (bounds c.requires.0).deep
+
+pub analyze_expr-requires : goal.analyze_expr-requires
+analyze_expr-requires c = let p = c.requires in ((constrain_at p.0 p.1.1).value, p.1.0)
+
+pub returns : goal.returns
+returns c = let p = c.requires in constrain_done p.0 _ _ c.typed_at_all.ensures p.1.1 c.analyze_expr.ensures

@@ -1,0 +1,11 @@
+-- `contract_lookup::places::places_of`: the walk goes on from the record at `at`. Assumes nothing.
+use Prim.Native.Nat.{◌-◌}
+use lib.ListN.{length}
+use Rattle.contract_lookup.proofs.Placing.{Listing}
+use Rattle.contract_lookup.proofs.places.places_of.Given as goal
+
+abbrev pub invariant-loop-at : goal.invariant-loop-at
+invariant-loop-at l = Listing l.s l.kind (length l.initial.places) l.places l.n l.at
+
+abbrev pub decreases-loop-at : goal.decreases-loop-at
+decreases-loop-at l = length l.s - l.at

@@ -1,0 +1,14 @@
+-- `lines::verify_line`: the line of what `verify` answers. Assumes nothing.
+use mathlib.Core.Path.{ap, ◌∙◌}
+use borrow.Author.Rules.{rules}
+use Rattle.definitions.specs.Answers.{numbers_of}
+use Rattle.line_text.proofs.Zeros.{told, written}
+use Rattle.lines.proofs.verify_line.Goals as goal
+
+pub returns : goal.returns
+returns c =
+    let n = c.verify_numbers-n in
+    let same = told n.result.count n.result.list _ n.ensures ∙ ap numbers_of c.verify.ensures in
+    let e = c.line.ensures in
+    let w = written _ _ same (e.out_after, (e.value, e.upper_bound)) in
+    record { out_after = w.0; value = w.1.0; upper_bound = w.1.1 }

@@ -1,0 +1,9 @@
+-- `lower_emit::emit_const`: the bytes are those of Const. Assumes nothing.
+use mathlib.Core.Path.{refl}
+use borrow.Author.Rules.{rules}
+use Rattle.definitions.specs.Ir.{IrType, Instruction}
+use Rattle.lower_emit.proofs.Written.{pushes}
+use Rattle.lower_emit.proofs.emit_const.Goals as goal
+
+pub returns : goal.returns
+returns c = let a = c.args in pushes (Instruction.Const IrType.U64 a.value) refl c.next_value-taken.ensures c.put_record-to.ensures c.after_value.ensures

@@ -1,0 +1,8 @@
+-- `lower_emit::emit_jump`: the bytes are those of Jump. Assumes nothing.
+use borrow.Author.Rules.{rules}
+use Rattle.definitions.specs.Ir.{Terminator}
+use Rattle.lower_emit.proofs.Written.{closes}
+use Rattle.lower_emit.proofs.emit_jump.Goals as goal
+
+pub returns : goal.returns
+returns c = let a = c.args in closes (Terminator.Jump a.target.0) c.put_terminator-to.ensures c.after_record.ensures

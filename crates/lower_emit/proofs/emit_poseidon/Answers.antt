@@ -1,0 +1,9 @@
+-- `lower_emit::emit_poseidon`: the bytes are those of Poseidon. Assumes nothing.
+use mathlib.Core.Path.{refl}
+use borrow.Author.Rules.{rules}
+use Rattle.definitions.specs.Ir.{Instruction}
+use Rattle.lower_emit.proofs.Written.{pushes}
+use Rattle.lower_emit.proofs.emit_poseidon.Goals as goal
+
+pub returns : goal.returns
+returns c = let a = c.args in pushes (Instruction.Poseidon a.lhs.0 a.rhs.0) refl c.next_value-taken.ensures c.put_record-to.ensures c.after_value.ensures

@@ -1,0 +1,13 @@
+-- `lower_emit::emit_read_local`: the bytes are those of ReadLocal. Assumes nothing.
+use mathlib.Core.Path.{refl}
+use borrow.Author.Rules.{rules}
+use Rattle.definitions.specs.Ir.{Instruction}
+use Rattle.ir.specs.Types.{as_type}
+use Rattle.lower_emit.proofs.Written.{pushes}
+use Rattle.lower_emit.proofs.emit_read_local.Goals as goal
+
+pub returns : goal.returns
+returns c =
+    let a = c.args in
+    let code = c.type_code.ensures.0 in
+    pushes (Instruction.ReadLocal a.local.0 (as_type a.ty)) refl c.next_value-taken.ensures (rw code at c.put_record-to.ensures) c.after_value.ensures

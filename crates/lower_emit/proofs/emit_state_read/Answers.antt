@@ -1,0 +1,9 @@
+-- `lower_emit::emit_state_read`: the bytes are those of StateRead. Assumes nothing.
+use mathlib.Core.Path.{refl}
+use borrow.Author.Rules.{rules}
+use Rattle.definitions.specs.Ir.{IrType, Instruction}
+use Rattle.lower_emit.proofs.Written.{pushes}
+use Rattle.lower_emit.proofs.emit_state_read.Goals as goal
+
+pub returns : goal.returns
+returns c = let a = c.args in pushes (Instruction.StateRead IrType.U64 a.slot) refl c.next_value-taken.ensures c.put_record-to.ensures c.after_value.ensures

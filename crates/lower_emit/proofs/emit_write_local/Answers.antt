@@ -1,0 +1,9 @@
+-- `lower_emit::emit_write_local`: the bytes are those of WriteLocal. Assumes nothing.
+use mathlib.Core.Path.{refl}
+use borrow.Author.Rules.{rules}
+use Rattle.definitions.specs.Ir.{Instruction}
+use Rattle.lower_emit.proofs.Written.{appends}
+use Rattle.lower_emit.proofs.emit_write_local.Goals as goal
+
+pub returns : goal.returns
+returns c = let a = c.args in appends (Instruction.WriteLocal a.local.0 a.value.0) refl c.put_record-to.ensures c.after_record.ensures

@@ -1,0 +1,16 @@
+-- `lower_emit::put_record`: the parts are appended one after the other. Assumes nothing.
+use borrow.Author.Rules.{rules}
+use Rattle.lower_emit.specs.Bytes.{record_bytes}
+use Rattle.lower_emit.proofs.Appending.{◌then◌}
+use Rattle.lower_emit.proofs.put_record.Goals as goal
+
+pub returns : goal.returns
+unfolding record_bytes
+returns c =
+    c.put-at.ensures
+    then c.put-at-2.ensures
+    then c.put-at-3.ensures
+    then c.put-at-4.ensures
+    then c.put-at-5.ensures
+    then c.put-at-6.ensures
+    then c.put.ensures

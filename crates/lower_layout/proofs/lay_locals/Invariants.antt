@@ -1,0 +1,18 @@
+-- `lower_layout::lay_locals`: the count, and then the types before i are written. Assumes nothing.
+use mathlib.Core.Path.{◌≡◌, refl, ap, ◌∙◌}
+use Prim.Native.Nat.{◌+◌, ◌-◌, ◌*◌, ◌≤◌}
+use native.Mathlib.Nat.{zero-add}
+use native.Mathlib.Omega.{arith}
+use borrow.Author.Rules.{rules}
+use lib.ListN.{length}
+use Rattle.definitions.specs.Records.{write_type}
+use Rattle.lower_layout.specs.Stored.{Put}
+use Rattle.lower_layout.proofs.Storing.{◌then◌, wrote, put_as, run, run_none, run_next}
+use Rattle.lower_layout.proofs.Records.{local_at, locals_are, same_type}
+use Rattle.lower_layout.proofs.lay_locals.Given as goal
+
+abbrev pub invariant-loop-i : goal.invariant-loop-i
+invariant-loop-i l = (l.i ≤ l.n) × (l.place ≡ l.initial.place + 4 * l.i) × (length l.out ≡ length l.initial.out) × Put (run (local_at l.tables) 0 l.i) l.initial.out l.initial.place l.out l.place
+
+abbrev pub decreases-loop-i : goal.decreases-loop-i
+decreases-loop-i l = l.n - l.i

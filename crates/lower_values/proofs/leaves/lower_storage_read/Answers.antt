@@ -1,0 +1,14 @@
+-- `leaves::lower_storage_read`: by the slot. Assumes nothing.
+use mathlib.Core.Path.{ap, sym, ◌∙◌}
+use borrow.Author.Rules.{rules}
+use Rattle.contract_lookup.specs.Answers.{slot_of}
+use Rattle.lower_values.proofs.Answered.{pushes, at_slot, by_slot}
+use Rattle.lower_values.proofs.leaves.lower_storage_read.Goals as goal
+
+pub returns-in-At : goal.returns-in-At
+returns-in-At c =
+    let f = c.storage_slot in
+    let r = pushes c.emit_state_read.ensures c.value_of.ensures (by_slot _ _ _ ∙ ap (at_slot _ _) (sym f.ensures ∙ ap slot_of c.in-At.is)) in record { result_after = r.0; lowered_same = r.1 }
+
+pub returns-in-Undeclared : goal.returns-in-Undeclared
+returns-in-Undeclared c = record { result_after = sym (by_slot _ _ _ ∙ ap (at_slot _ _) (sym c.storage_slot.ensures ∙ ap slot_of c.in-Undeclared.is)); lowered_same = tt }

@@ -1,0 +1,7 @@
+-- `machine_steps::step_jump`: to the block. Assumes nothing.
+use borrow.Author.Rules.{rules}
+use Rattle.machine_steps.proofs.Doing.{jump_goes}
+use Rattle.machine_steps.proofs.step_jump.Goals as goal
+
+pub returns : goal.returns
+returns c = jump_goes _ c.read_u16-target.ensures c.go_to.ensures

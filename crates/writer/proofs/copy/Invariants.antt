@@ -1,0 +1,16 @@
+-- `writer::copy`: what is left of the run is stored from `to + i` on. Assumes nothing.
+use mathlib.Core.Path.{◌≡◌, refl, sym, ◌∙◌}
+use Prim.Native.Nat.{◌+◌, ◌-◌, ◌≤◌}
+use native.Mathlib.Omega.{arith}
+use borrow.Author.Rules.{rules}
+use native.Mathlib.Nat.{add-zero, sub-zero}
+use lib.ListN.{length, length-set, take, drop}
+use lib.Seq.{sets}
+use Rattle.writer.proofs.Writing.{copy_front}
+use Rattle.writer.proofs.copy.Given as goal
+
+abbrev pub invariant-loop-i : goal.invariant-loop-i
+invariant-loop-i l = (sets l.out (l.to + l.i) (take (l.n - l.i) (drop (l.at + l.i) l.from)) ≡ sets l.initial.out l.to (take l.n (drop l.at l.from))) × (length l.out ≡ length l.initial.out) × (l.i ≤ l.n)
+
+abbrev pub decreases-loop-i : goal.decreases-loop-i
+decreases-loop-i l = l.n - l.i
