@@ -6,12 +6,11 @@ use mathlib.Core.Option.{none, some}
 use Prim.Native.Nat.{ℕ, zero, suc, ◌+◌, ◌-◌, ◌≤◌, ◌<◌}
 use native.Mathlib.Numerals.{add-one}
 use native.Mathlib.Omega.{arith}
-use lib.Dec.{eqb}
 use lib.ListN.{length, get_or, set, replicate, length-set, length-replicate, get_or-replicate}
 use lib.Seq.{get_or-set_same, get_or-set_other}
-use borrow.Author.Tests.{eq-eqb, ne_eqb, eqb-true, eqb-false}
+use borrow.Author.Tests.{eq-eqb, ne_eqb}
 use Rattle.definitions.specs.Analyze.{Ty, get}
-use Rattle.definitions.proofs.Results.{by_test, by_eq}
+use Rattle.definitions.proofs.Results.{by_eq}
 use Rattle.analyze_env.specs.Known.{name_in, link_in, ty_in, env_of, chain_of, chain_at, newest, Known, Inserted}
 
 -- THE NEWEST OF A CHAIN, of w chains

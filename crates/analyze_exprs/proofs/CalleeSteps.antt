@@ -5,7 +5,7 @@ use mathlib.Core.List.{List, [], ◌∷◌}
 use mathlib.Core.Option.{none, some}
 use Prim.Native.Nat.{ℕ, zero, suc, ◌+◌, ◌*◌, ◌≤◌, ◌<◌}
 use native.Mathlib.Omega.{arith}
-use borrow.Author.Tests.{ne_eqb, eq-eqb, not-true, not-false}
+use borrow.Author.Tests.{ne_eqb, eq-eqb}
 use lib.ListN.{length}
 use Rattle.definitions.specs.Fields.{le}
 use Rattle.definitions.specs.Grammar.{Class}
@@ -120,11 +120,11 @@ module _ (p many n : ℕ) (fits : Bool) (ret : IrType) where
   pub wrong_count : (many ≡ n → ⊥) → err (sema p 10) ≡ finished_with p many n fits ret
   wrong_count h = rw (ne_eqb many n h)
 
-  pub wrong_types : many ≡ n → not fits ≡ true → err (sema p 11) ≡ finished_with p many n fits ret
-  wrong_types e h = rw (eq-eqb many n e, not-true fits h)
+  pub wrong_types : many ≡ n → fits ≡ false → err (sema p 11) ≡ finished_with p many n fits ret
+  wrong_types e h = rw (eq-eqb many n e, h)
 
-  pub right_call : many ≡ n → not fits ≡ false → ok (known ret) ≡ finished_with p many n fits ret
-  right_call e h = rw (eq-eqb many n e, not-false fits h)
+  pub right_call : many ≡ n → fits ≡ true → ok (known ret) ≡ finished_with p many n fits ret
+  right_call e h = rw (eq-eqb many n e, h)
 
 -- by what is called
 module _ (s : List ℕ) (p : ℕ) {k : Callee} (n : ℕ) (fits : Bool) {X : Checking Ty} where

@@ -1,14 +1,14 @@
 -- Calls: what is called, and whether the arguments so far fit. Untrusted: helper definitions. Assumes nothing: these are definitions.
-use Rattle.std.specs.Prelude.{ℕ, zero, suc, Bool, true, false, not, ◌&&◌, List, [], ◌∷◌, eqb, length}
+use Rattle.std.specs.Prelude.{ℕ, zero, suc, Bool, true, not, ◌&&◌, List, [], ◌∷◌, eqb, length}
 use Rattle.std.proofs.Math.Option.{Option, none, some}
-use Rattle.definitions.specs.Result.{Result, err, ok, ◌>>=◌, ◌>>◌, ok_or_else, check}
+use Rattle.definitions.specs.Result.{ok, ◌>>=◌, ◌>>◌, ok_or_else, check}
 use Rattle.definitions.specs.Analyze as analyze
 use Rattle.definitions.specs.Analyze.{known, Unknown, differs, Signature, declared}
 use Rattle.definitions.specs.ContractSheet.{function_of}
 use Rattle.definitions.specs.Grammar.{Class}
 use Rattle.definitions.specs.Ir.{IrType}
 use Rattle.contract_nodes.specs.Ready.{Ready, tree_at}
-use Rattle.analyze_walk.specs.Stops.{Checking, sema, refuse_if}
+use Rattle.analyze_walk.specs.Stops.{Checking, sema}
 use Rattle.analyze_exprs.specs.declared.Callee.{Callee}
 use Rattle.analyze_exprs.specs.declared.Callee.TheVariants as callee
 

@@ -13,18 +13,14 @@ ghost use Rattle.analyze_env.specs.Known.{as_ty, env_of, Known};
 ghost use Rattle.analyze_walk.specs.Stops.{sema, access_struct, access};
 ghost use Rattle.analyze_state.specs.Scene.{body_check_of};
 ghost use Rattle.analyze_exprs.specs.Typed.{typed_of, mapping_on, access_on, binary_ty, field_check, field_fits};
+
 use crate::Typed;
-use analyze_env::NameType;
-use analyze_env::Ty;
-use analyze_env::differs;
-use analyze_env::lookup;
-use analyze_state::BodyCheck;
-use analyze_state::SemaError;
+use analyze_env::{NameType, Ty, differs, lookup};
+use analyze_state::{BodyCheck, SemaError};
 use contract_lookup::FieldType;
 use contract_lookup::places::last_place;
 use contract_lookup::symbols::field_type;
-use ir::IrType;
-use ir::Name;
+use ir::{IrType, Name};
 
 // A name.
 pub(crate) fn ident(at: usize, name: Name, entries: &[u64], heads: &[u16], count: usize) -> Typed

@@ -1,6 +1,6 @@
 -- The body check as the code does it: it stops at the first error, and of an error it keeps the refusal alone. Untrusted: helper definitions; proofs/Stops.antt
 -- shows that this is `analyze`.
-use Rattle.std.specs.Prelude.{ℕ, List, [], ◌∷◌, Bool, true, false, not, eqb, length}
+use Rattle.std.specs.Prelude.{ℕ, List, [], ◌∷◌, Bool, true, false, eqb, length}
 use Rattle.std.proofs.Math.Option.{Option, none, some}
 use Rattle.definitions.specs.Result.{Result, err, ok, ◌>>=◌, ◌>>◌, ok_or_else, Done, check}
 use Rattle.definitions.specs.Ast.{Expr, Exprs, enil, econs, FieldInits, fnil, fcons, OptExpr, absent, present, Stmt, Stmts, snil, scons, OptStmts, no_else, else_do, Param, Struct, Function, Contract}

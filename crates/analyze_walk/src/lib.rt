@@ -1,3 +1,2 @@
 // The body check as the code does it: helper definitions and proofs; no code.
 #![tactic(auto)]
-

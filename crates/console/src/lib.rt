@@ -1,10 +1,12 @@
 // Standard input and output and the arguments, as the programs use them. What fails is said on standard error, and then no answer is printed.
-// No contract of the C library says which bytes a read gave or a write took, so none here does.
+// No contract of the standard library says which bytes a read gave or a write took, so none here does.
 #![tactic(auto)]
 
+ghost use Rattle.io.specs.Counts.{IsPrefixLen};
 ghost use Rattle.console.specs.Input.{InputFits};
 
-use libc::{STDERR_FILENO, STDIN_FILENO, STDOUT_FILENO};
+use std::env::{Env, FillError};
+use std::io::{Error, ErrorKind, Read, Write};
 
 // What a read of standard input came to.
 #[derive(Clone, Copy)]
@@ -16,12 +18,12 @@ pub enum Input {
 }
 
 // Reads standard input until `buf` is full or the input ends.
-pub fn read(buf: &mut [u8]) -> Input
+pub fn read(rt: &HostRuntime, buf: &mut [u8]) -> Input
     ensures { InputFits result buf.new }
 {
     let mut done = 0;
     while done < buf.len() {
-        let Input::Read(n) = read_some(&mut buf[done..]) else {
+        let Input::Read(n) = read_some(rt, &mut buf[done..]) else {
             return Input::Failed;
         };
         if n == 0 {
@@ -37,45 +39,86 @@ pub fn read(buf: &mut [u8]) -> Input
 const INTERRUPTIONS: u32 = 1000000;
 
 // One read, which answers 0 at the input's end. Where a signal interrupts it before a byte came, it is begun again.
-fn read_some(buf: &mut [u8]) -> Input
+fn read_some(rt: &HostRuntime, buf: &mut [u8]) -> Input
     ensures { InputFits result buf.new }
 {
     let mut left = INTERRUPTIONS;
-    while 0 < left {
-        let got = libc::read(STDIN_FILENO, buf);
-        if 0 <= got {
-            return Input::Read(io::count(got, buf));
-        }
-        if os::errno() != libc::EINTR {
-            break;
-        }
+    loop {
+        let error = match rt.stdin().read(buf) {
+            Ok(n) => return Input::Read(n),
+            Err(error) => error,
+        };
         left -= 1;
+        if left == 0 || error.kind() != ErrorKind::Interrupted {
+            fail(rt, b"standard input", error);
+            return Input::Failed;
+        }
     }
-    os::fail(b"standard input");
-    Input::Failed
 }
 
 // Writes a line.
-pub fn print(line: &[u8]) {
-    let is_written = io::write_all(STDOUT_FILENO, line);
-    if !is_written {
-        os::fail(b"standard output");
+pub fn print(rt: &HostRuntime, line: &[u8]) {
+    if let Err(error) = Print::write_all(rt, line) {
+        fail(rt, b"standard output", error);
     }
 }
 
 // Whether the program was started with `count` arguments. Where it was not, says how it is used.
-pub fn has_args(count: usize, usage: &[u8]) -> bool {
-    if arg_count() == count {
+pub fn has_args(rt: &HostRuntime, count: usize, usage: &[u8]) -> bool {
+    if arg_count(rt) == count {
         return true;
     }
-    io::write_all(STDERR_FILENO, b"usage: ");
-    io::write_all(STDERR_FILENO, usage);
-    io::write_all(STDERR_FILENO, b"\n");
+    say(rt, b"usage: ");
+    say(rt, usage);
+    say(rt, b"\n");
     false
 }
 
-// os::arg_count has the program's own name among the arguments, which whoever starts it may leave out.
-fn arg_count() -> usize {
-    let all = os::arg_count();
-    if all == 0 { 0 } else { all - 1 }
+// How many arguments there are behind the program's own name, which is the first, and which whoever starts it may leave out.
+fn arg_count(rt: &HostRuntime) -> usize {
+    for i in 0..usize::MAX {
+        if !is_given(rt, i + 1) {
+            return i;
+        }
+    }
+    usize::MAX
+}
+
+// An argument that is too long for the buffer is there too.
+fn is_given(rt: &HostRuntime, i: usize) -> bool {
+    !matches!(rt.arg(i, &mut []), Err(FillError::NotPresent))
+}
+
+// Writes a line to standard error: what failed, a colon and the system's words for why.
+fn fail(rt: &HostRuntime, what: &[u8], error: Error) {
+    let mut text = [0u8; 128];
+    put_error(error, &mut text);
+    let n = words_len(&text);
+    say(rt, what);
+    say(rt, b": ");
+    say(rt, &text[..n]);
+    say(rt, b"\n");
+}
+
+// Puts the error at the start of `text`, as far as it fits: the system's words and then its number, as in `Is a directory (os error 21)`.
+fn put_error(error: Error, text: &mut [u8; 128]) {
+    let mut rest: &mut [u8] = text;
+    let _ = write!(rest, "{error}");
+}
+
+// How many bytes the words take: they end at the number, or at the zeros behind a text that has none.
+fn words_len(text: &[u8]) -> usize
+    ensures { IsPrefixLen result text.now }
+{
+    for i in 0..text.len() {
+        if text[i] == 0 || text[i..].starts_with(b" (os error ") {
+            return i;
+        }
+    }
+    text.len()
+}
+
+// Where standard error takes nothing, there is nowhere to say so.
+fn say(rt: &HostRuntime, text: &[u8]) {
+    let _ = Print::write_all(&rt.stderr(), text);
 }

@@ -1,15 +1,15 @@
 -- The parts of Let, If, While and For at the places that code computes, and how long their records are. Assumes nothing.
 use Prim.Native.Nat.{ℕ, ◌+◌, ◌-◌, ◌<◌, ◌≤◌}
 use mathlib.Core.Logic.{◌⊎◌, inl, inr}
-use mathlib.Core.Path.{◌≡◌, refl, ap, sym, ◌∙◌, subst}
+use mathlib.Core.Path.{◌≡◌, refl, ap, sym, subst}
 use mathlib.Core.List.{List, [], ◌∷◌, ◌++◌, map}
 use native.Mathlib.Omega.{arith}
 use lib.Dec.{lit≤}
 use lib.ListN.{length}
 use Rattle.definitions.specs.Fields.{le}
-use Rattle.definitions.specs.Ast.{Stmt, Stmts, snil, OptStmts, no_else, else_do}
+use Rattle.definitions.specs.Ast.{Stmt, snil, OptStmts, no_else, else_do}
 use Rattle.definitions.specs.Grammar.{Class, Entry, up_to, number, single, Field, Pattern, rows}
-use Rattle.definitions.specs.Records.{Trees, row_in, row_fields, size_of}
+use Rattle.definitions.specs.Records.{row_in, row_fields, size_of}
 use Rattle.definitions.specs.ContractSheet.{stmts_of, stmt_of}
 use Rattle.definitions.proofs.Sheets.Lines.{OfRows, Given, by_lines}
 use Rattle.definitions.proofs.Sheets.Singles.{after}

@@ -13,7 +13,7 @@ use Rattle.definitions.specs.Lower.{fresh_value, with_block, fresh_block, with_l
 use Rattle.definitions.specs.Analyze.{ident_type, access_type, check_field, check_args, call_type, analyze_expr, analyze_return, analyze_stmt, analyze_function, analyze_functions, analyze}
 use Rattle.definitions.specs.ContractSheet.{expr_of, stmt_of, function_of, contract_of, read_contract, refusal3, count_trees, over, limit_tree, refusal4}
 use Rattle.definitions.specs.ProgramSheet.{write_program}
-use Rattle.definitions.specs.Result.{Result, err, ok, ◌>>=◌, ◌>>◌, map_err, Done, check}
+use Rattle.definitions.specs.Result.{Result, err, ok, ◌>>=◌, ◌>>◌, map_err, check}
 use Rattle.definitions.specs.Ir.{IrProgram}
 use Rattle.definitions.specs.Lower as lower
 use Rattle.definitions.specs.Records as records

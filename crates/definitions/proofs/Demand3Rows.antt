@@ -1,17 +1,17 @@
 -- What `specs/Demand3Rows.antt` says of the statement of demand 3 holds. Assumes nothing.
 use Prim.Native.Nat.{ℕ, zero, suc, ◌<◌, ◌≤◌}
-use mathlib.Core.Path.{◌≡◌, refl, sym}
+use mathlib.Core.Path.{◌≡◌, refl}
 use mathlib.Core.Logic.{◌⊎◌, inl, inr}
 use mathlib.Core.List.Memᴰ
-use mathlib.Core.List.{List, [], ◌∷◌, ◌++◌, Memᴰ}
+use mathlib.Core.List.{List, [], ◌∷◌, Memᴰ}
 use native.Mathlib.Omega.{arith}
 use lib.ListN.{length, get_or}
-use Rattle.definitions.specs.All.{All, anil, acons}
-use Rattle.definitions.specs.Result.{err, ok}
+use Rattle.definitions.specs.All.{All, acons}
+use Rattle.definitions.specs.Result.{err}
 use Rattle.definitions.specs.Fields.{Bytes}
 use Rattle.definitions.specs.Ir.{IrFunction}
 use Rattle.definitions.specs.Run.{Pick, State, at, ended, lacks, enter, follow, step_entry, step, steps, start, run}
-use Rattle.definitions.specs.Answers.{Refusal, Answer}
+use Rattle.definitions.specs.Answers.{Refusal}
 use Rattle.definitions.specs.Demand3.{NeverLacks, AcceptedOr45to47}
 use Rattle.definitions.specs.Demand3Rows.{Lacking, program_with, Refuted, lacking_programs, LackingRefuted, fine, reads_parameter, never_lacking, NeverLackingHold, taken_answers, TakenAnswers, GivesProgram, GivesRuns, GivesAnswer, OfLowerSheet, GivesSheet, GivesContractSheet, GivesProgramSheet, BytesSay}
 use Rattle.definitions.proofs.All.{all_of}

@@ -1,7 +1,7 @@
 -- The clauses of `specs/RunClauses.antt` hold, by computation. Assumes nothing.
-use mathlib.Core.Path.{◌≡◌, refl}
+use mathlib.Core.Path.{refl}
 use Rattle.definitions.specs.Run.{holds, held_at_entry, enter, follow, step_entry, step, steps, start, run}
-use Rattle.definitions.specs.RunClauses.{RunStarts, Entering, Stepping, Following, Holding, RunClauses}
+use Rattle.definitions.specs.RunClauses.{RunClauses}
 
 pub run_clauses : RunClauses
 unfolding enter follow step_entry step steps start run

@@ -1,12 +1,12 @@
 -- Runs of small programs on the bench (document 02, order 2), each with its whole answer: outcome or refusal, and what the state words then hold. Each reading
 -- of docs/DECISIONS.md has its row. `proofs/BenchRows.antt` shows that they hold. Assumes nothing: these are definitions.
 use Rattle.std.specs.Prelude.{ℕ, ◌≡◌, List, [], ◌∷◌}
-use Rattle.std.proofs.Math.Option.{Option, none, some}
+use Rattle.std.proofs.Math.Option.{none, some}
 use Rattle.definitions.specs.All.{All}
-use Rattle.definitions.specs.Result.{Result, err, ok}
+use Rattle.definitions.specs.Result.{err, ok}
 use Rattle.definitions.specs.Ast.{BinOp}
 use Rattle.definitions.specs.Ir.{IrType, Instruction, Terminator, InstrNode, BasicBlock, IrFunction}
-use Rattle.definitions.specs.Answers.{Refusal, refusal}
+use Rattle.definitions.specs.Answers.{refusal}
 use Rattle.definitions.specs.Bench.{BenchOutcome, Tried, tried_with, bench_program, lent_with}
 use Rattle.definitions.specs.RunRows.{block, open_block, gives, does, five, six}
 

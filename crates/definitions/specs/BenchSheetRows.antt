@@ -4,7 +4,7 @@ use Rattle.std.specs.Prelude.{ℕ, ◌≡◌, List, [], ◌∷◌, ◌++◌}
 use Rattle.std.proofs.Math.Option.{Option, none, some}
 use Rattle.std.proofs.Math.ListN.{get_elem?}
 use Rattle.definitions.specs.All.{All}
-use Rattle.definitions.specs.Result.{Result, err, ok, ok_or_else}
+use Rattle.definitions.specs.Result.{err, ok, ok_or_else}
 use Rattle.definitions.specs.Ast.{BinOp}
 use Rattle.definitions.specs.Ir.{IrType, Instruction, Terminator, InstrNode, IrFunction}
 use Rattle.definitions.specs.Answers.{refusal, padded, Answer, lower_sheet}

@@ -3,7 +3,7 @@
 -- refused here and in RulesOut.antt. `proofs/Demand3Rows.antt` shows that they hold. Assumes nothing: these are definitions.
 use Rattle.std.specs.Prelude.{ℕ, zero, suc, ◌<◌, ◌≤◌, ◌≡◌, length}
 use mathlib.Core.List.{List, [], ◌∷◌, ◌++◌, Memᴰ}
-use Rattle.std.proofs.Math.Option.{none, some}
+use Rattle.std.proofs.Math.Option.{some}
 use Rattle.definitions.specs.All.{All}
 use Rattle.definitions.specs.Result.{err, ok}
 use Rattle.definitions.specs.Fields.{Bytes}

@@ -1,7 +1,7 @@
 -- Lowering (`ir/lower.rs`), with refusal 30 where a function's 257th block or local would be made. Assumes nothing: these are definitions.
 use Rattle.std.specs.Prelude.{ℕ, suc, ◌*◌, List, [], ◌∷◌, ◌++◌, Bool, true, false, eqb, ltb, length}
 use Rattle.std.proofs.Math.Option.{Option, none, some}
-use Rattle.definitions.specs.Result.{Result, err, ok, ◌>>=◌, ◌>>◌, ok_or_else}
+use Rattle.definitions.specs.Result.{Result, err, ok, ◌>>=◌, ok_or_else}
 use Rattle.definitions.specs.Names.{empty, u64, bool, field, void, poseidon, verify_merkle_proof, msg_sender, msg_nonce, block_number, by_name, last_named, first_named}
 use Rattle.definitions.specs.Ast.{BinOp, Expr, Exprs, enil, econs, OptExpr, absent, present, Stmt, Stmts, snil, scons, OptStmts, no_else, else_do, StorageField, Struct, Param, Function, Contract}
 use Rattle.definitions.specs.Ir.{IrType, Instruction, binary_type, unless_void, result_type, Terminator, InstrNode, BasicBlock, IrFunction, IrProgram, find, update}

@@ -1,11 +1,11 @@
 -- What makes demand 3 mean something: runs that end, a program whose run lacks, and what small contracts come to.
 -- `proofs/Meaning.antt` shows that the rows hold. Assumes nothing: these are definitions.
 use Rattle.std.specs.Prelude.{ℕ, zero, suc, ◌≡◌, List, [], ◌∷◌}
-use Rattle.std.proofs.Math.Option.{Option, none, some}
+use Rattle.std.proofs.Math.Option.{none}
 use Rattle.definitions.specs.All.{All}
 use Rattle.definitions.specs.Result.{Result, err, ok}
 use Rattle.definitions.specs.Ir.{IrFunction}
-use Rattle.definitions.specs.Run.{Way, then_way, else_way, Pick, State, at, ended, lacks, run}
+use Rattle.definitions.specs.Run.{then_way, else_way, Pick, State, at, ended, lacks, run}
 use Rattle.definitions.specs.ProgramSheet.{read_program}
 use Rattle.definitions.specs.Answers.{Refusal, refusal, Answer, lower_sheet, verify_sheet}
 use Rattle.definitions.specs.Rows.{SheetRow, P1, P3, P7, P12, Holds}

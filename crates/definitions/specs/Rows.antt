@@ -5,8 +5,8 @@
 use Rattle.std.specs.Prelude.{ℕ, ◌≡◌, List, [], ◌∷◌}
 use Rattle.std.proofs.Math.Option.{Option, none, some}
 use Rattle.definitions.specs.All.{All}
-use Rattle.definitions.specs.Result.{Result, err, ok}
-use Rattle.definitions.specs.Answers.{Refusal, refusal, Answer, lower_sheet, verify_sheet}
+use Rattle.definitions.specs.Result.{err, ok}
+use Rattle.definitions.specs.Answers.{refusal, Answer, lower_sheet, verify_sheet}
 
 pub record SheetRow : Type 0 where
   pub sheet : List ℕ

@@ -4,7 +4,7 @@
 use Rattle.std.specs.Prelude.{ℕ, ◌≡◌, List, [], ◌∷◌, ◌++◌, true, false, ◌&&◌, eqb}
 use Rattle.std.proofs.Math.Option.{Option, none, some}
 use Rattle.definitions.specs.Ir.{IrType, Terminator, InstrNode, BasicBlock, IrFunction, operands, local_read, local_written, contains, find}
-use Rattle.definitions.specs.Run.{Way, then_way, else_way, Pick, Place, State, at, ended, lacks, holds, all_held, all_written, enter_at, params_held, is_first, held_at_entry, enter, hold_result, term_reads, target, follow, step_entry, step, steps, start, run}
+use Rattle.definitions.specs.Run.{Way, then_way, else_way, Pick, Place, State, at, ended, lacks, holds, all_held, all_written, enter_at, params_held, is_first, held_at_entry, enter, hold_result, term_reads, follow, step_entry, step, steps, start, run}
 
 -- a run starts by entering the first listed block, no local written; each step gets what the last one left
 pub record RunStarts (f : IrFunction) (ws : List ℕ) : Type 0 where

@@ -2,11 +2,11 @@
 -- that lacks beside one that does not. No compiled code cites Run, so these rows are what holds it to its words: whoever changes a clause of it
 -- meets a row that no longer computes. `proofs/RunRows.antt` shows that they hold. Assumes nothing: these are definitions.
 use Rattle.std.specs.Prelude.{ℕ, zero, suc, ◌*◌, ◌≡◌, List, [], ◌∷◌, ◌++◌, map}
-use Rattle.std.proofs.Math.Option.{Option, none, some}
+use Rattle.std.proofs.Math.Option.{none, some}
 use Rattle.definitions.specs.All.{All}
 use Rattle.definitions.specs.Ast.{BinOp}
 use Rattle.definitions.specs.Ir.{IrType, Instruction, Terminator, InstrNode, BasicBlock, IrFunction}
-use Rattle.definitions.specs.Run.{Way, then_way, else_way, Pick, Place, State, at, ended, lacks, steps, run}
+use Rattle.definitions.specs.Run.{then_way, else_way, Pick, State, at, ended, lacks, steps, run}
 
 -- blocks and instructions, written short
 abbrev pub block : ℕ → List InstrNode → Terminator → BasicBlock

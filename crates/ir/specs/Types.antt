@@ -1,5 +1,5 @@
 -- The code's types as the definitions' types, and as numbers. Assumes nothing: these are definitions.
-use Rattle.std.specs.Prelude.{ℕ, ◌+◌, ◌*◌, ◌^◌, ◌<◌, ◌≡◌}
+use Rattle.std.specs.Prelude.{ℕ, ◌+◌, ◌*◌, ◌<◌, ◌≡◌}
 use Rattle.definitions.specs.Fields.{bytes}
 use Rattle.definitions.specs.Records.{write_type}
 use Rattle.definitions.specs.Ir as defs

@@ -1,12 +1,11 @@
 -- What is kept from one step of lowering to the next, and what a variant that a call gave means. Assumes nothing.
 use Prim.Native.Nat.{ℕ, ◌<◌}
-use mathlib.Core.Path.{◌≡◌, ap, sym, ◌∙◌, subst}
+use mathlib.Core.Path.{◌≡◌, ap, ◌∙◌, subst}
 use mathlib.Core.List.{List}
 use native.Mathlib.Nat.{le_refl, le_trans}
 use native.Mathlib.Omega.{arith}
 use Rattle.definitions.specs.Result.{Result, err, ok, ◌>>=◌}
 use Rattle.definitions.specs.Ir.{Instruction}
-use Rattle.definitions.proofs.Results.{told}
 use Rattle.lower_walk.specs.Log.{Log}
 use Rattle.lower_walk.specs.Stmts.{LogCtx, with_log, push_c}
 use Rattle.lower_state.specs.State.{Frame, ctx_with, ctx_in, log_in, SameFrame, Sound, Grown}

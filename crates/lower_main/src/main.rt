@@ -9,16 +9,16 @@ use console::Input;
 use format::MOST;
 use lines::LOWERED_LINE;
 
-fn main() {
-    if !console::has_args(0, b"lower_main < SHEET") {
+fn main(rt: HostRuntime) {
+    if !console::has_args(&rt, 0, b"lower_main < SHEET") {
         return;
     }
     let mut sheet = io::large_buffer();
-    let Input::Read(n) = console::read(&mut sheet) else {
+    let Input::Read(n) = console::read(&rt, &mut sheet) else {
         return;
     };
     let mut out = [0u8; MOST];
     let mut text = [0u8; LOWERED_LINE];
     let k = lines::lower_line(&sheet[..n], &mut out, &mut text);
-    console::print(&text[..k]);
+    console::print(&rt, &text[..k]);
 }

@@ -9,7 +9,6 @@ use lib.ListN.{length, get_or, set}
 use lib.Seq.{get_or-set_same, get_or-set_other}
 use borrow.Author.Tests.{eq-eqb, ne_eqb}
 use Rattle.definitions.specs.Ir.{IrType, tag_of, name_of}
-use Rattle.definitions.specs.Records.{type_from}
 use Rattle.definitions.specs.Lower.{in_scope}
 use Rattle.ir.proofs.Codes.{type_back, tag_low}
 use Rattle.lower_walk.specs.Held.{names}

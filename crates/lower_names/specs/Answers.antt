@@ -1,7 +1,7 @@
 -- The code's answers in the words of the definitions. Assumes nothing: these are definitions.
 use Rattle.std.specs.Prelude.{ℕ, ◌*◌}
 use Rattle.std.proofs.Math.Option.{Option, none, some}
-use Rattle.definitions.specs.Result.{err, ok, ◌>>=◌, ◌>>◌, ok_or_else}
+use Rattle.definitions.specs.Result.{err, ok, ◌>>=◌, ok_or_else}
 use Rattle.definitions.specs.Ast.{Contract}
 use Rattle.definitions.specs.Ir as defs
 use Rattle.definitions.specs.Lower as lowering

@@ -1,1 +1,2 @@
 pub mod StmtSteps
+pub mod Ways

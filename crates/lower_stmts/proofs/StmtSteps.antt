@@ -68,7 +68,7 @@ walk_of B x = walk_stmt (read_contract B.sheet) B.top.scope (held B) x (ctx₀ B
 abbrev whole : Begun → Lowering (LogCtx × Held)
 whole B = walk_of B (stmt_at B.sheet B.at)
 
-abbrev Done : Begun → (log tables : List ℕ) → Stepped → Type 0
+abbrev pub Done : Begun → (log tables : List ℕ) → Stepped → Type 0
 Done B = StmtDone B.sheet B.at B.entries B.top B.log B.tables B.ctx
 
 -- the statements of an arm or a body, in which the names es are held
@@ -199,21 +199,21 @@ module _ {B : Begun} (L : Listed B) where
   not_walked q = record { is = answers q; grown = tt }
 
 -- WHAT IT ASKS, of its kind k at the depth d and the measure t
-module _ (B : Begun) {d k t : ℕ} (G : (4 * d + 0 ≡ t) × ((Ready Class.statement B.sheet B.at d × (ContractPassed B.sheet × (record_kind B.sheet B.at ≡ k))) × (Sound B.ctx × ((B.top.count ≤ B.ctx.counters.local) × (B.top.scope + d ≤ 40))))) where
+module _ (top : Top) {s : List ℕ} {at d k t : ℕ} {c₀ : FnCtx} (m : 4 * d ≡ t) (r : Ready Class.statement s at d × (ContractPassed s × (record_kind s at ≡ k))) (o : Sound c₀ × ((top.count ≤ c₀.counters.local) × (top.scope + d ≤ 40))) where
   -- of its condition
-  pub asked_cond : {x : ℕ} → Ready Class.expression B.sheet x (d - 1) → Ready Class.expression B.sheet x (d - 1) × (ContractPassed B.sheet × (Sound B.ctx × (B.top.count ≤ 256)))
-  asked_cond r = (r, (G.1.0.1.0, (G.1.1.0, omega (arith, G.1.1.1.0, G.1.1.0.locals))))
+  pub asked_cond : {x : ℕ} → Ready Class.expression s x (d - 1) → Ready Class.expression s x (d - 1) × (ContractPassed s × (Sound c₀ × (top.count ≤ 256)))
+  asked_cond e = (e, (r.1.0, (o.0, omega (arith, o.1.0, o.0.locals))))
 
   -- of a list of its statements, which is two levels down, and one scope; and of an arm
-  module _ {from end : ℕ} (sc : Scopes) (h : 2 ≤ d) (r : ReadyAll Class.statement B.sheet from end (d - 2)) where
+  module _ {from end : ℕ} (sc : Scopes) (h : 2 ≤ d) (b : ReadyAll Class.statement s from end (d - 2)) where
     abbrev Asked : FnCtx → Type 0
-    Asked c = (4 * (d - 2) + 2 < t) × ((ReadyAll Class.statement B.sheet from end (d - 2) × ContractPassed B.sheet) × (Sound c × ((sc.count ≤ c.counters.local) × (sc.scope + (d - 2) ≤ 40))))
+    Asked c = (4 * (d - 2) + 2 < t) × ((ReadyAll Class.statement s from end (d - 2) × ContractPassed s) × (Sound c × ((sc.count ≤ c.counters.local) × (sc.scope + (d - 2) ≤ 40))))
 
-    pub asked_list : {c : FnCtx} → sc.scope ≡ suc B.top.scope → Sound c → sc.count ≤ c.counters.local → Asked c
-    asked_list z q n = (omega (arith, G.0, h), ((r, G.1.0.1.0), (q, (n, omega (arith, G.1.1.1.1, z, h)))))
+    pub asked_list : {c : FnCtx} → sc.scope ≡ suc top.scope → Sound c → sc.count ≤ c.counters.local → Asked c
+    asked_list z q n = (omega (arith, m, h), ((b, r.1.0), (q, (n, omega (arith, o.1.1, z, h)))))
 
-    pub asked_arm : {c : FnCtx} → (sc.count ≡ B.top.count) × (sc.scope ≡ suc B.top.scope) → Grown B.ctx c → Asked c
-    asked_arm e g = asked_list e.1 g.sound (omega (arith, g.locals, G.1.1.1.0, e.0))
+    pub asked_arm : {c : FnCtx} → (sc.count ≡ top.count) × (sc.scope ≡ suc top.scope) → Grown c₀ c → Asked c
+    asked_arm e g = asked_list e.1 g.sound (omega (arith, g.locals, o.1.0, e.0))
 
 -- A LIST OF STATEMENTS: none, the rest skipped, one and then the others
 module _ (K : Contract) (n : ℕ) (es : Held) (c : LogCtx) {xs : Stmts} where

@@ -1,7 +1,7 @@
 -- A call in two steps: what is called, then the call of it once the arguments have their values. Untrusted: helper definitions, shown
 -- equal to `walk_call`.
 use Rattle.std.specs.Prelude.{ℕ, List, true, false, eqb}
-use Rattle.definitions.specs.Result.{err, ok, ◌>>=◌, ◌>>◌, ok_or_else}
+use Rattle.definitions.specs.Result.{err, ok, ◌>>=◌, ok_or_else}
 use Rattle.definitions.specs.Ast.{Exprs, enil, Contract}
 use Rattle.definitions.specs.Ir.{IrType, Instruction}
 use Rattle.definitions.specs.Lower.{LoweringError, Lowering, Callee, context_fn, poseidon_fn, merkle_proof_fn, user_fn, callee, two_of}

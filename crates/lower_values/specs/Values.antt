@@ -1,7 +1,7 @@
 -- The code's answers in the words of the definitions. Assumes nothing: these are definitions.
 use Rattle.std.specs.Prelude.{ℕ, List}
 use Rattle.std.proofs.Math.Option.{none, some}
-use Rattle.definitions.specs.Result.{err, ok, ◌>>=◌, ◌>>◌}
+use Rattle.definitions.specs.Result.{err, ok, ◌>>=◌}
 use Rattle.definitions.specs.Ast.{BinOp, Contract}
 use Rattle.definitions.specs.Ir.{IrType, Instruction, binary_type}
 use Rattle.definitions.specs.Lower.{Lowering, Value}

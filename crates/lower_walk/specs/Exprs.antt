@@ -1,7 +1,7 @@
 -- Expressions into the log, with the names that are held. Untrusted: see Log.
 use Rattle.std.specs.Prelude.{ℕ, ◌*◌, List, [], ◌∷◌, true, false, eqb}
 use Rattle.std.proofs.Math.Option.{Option, none, some}
-use Rattle.definitions.specs.Result.{err, ok, ◌>>=◌, ◌>>◌, ok_or_else}
+use Rattle.definitions.specs.Result.{err, ok, ◌>>=◌, ok_or_else}
 use Rattle.definitions.specs.Ast.{Expr, Exprs, enil, econs, Contract}
 use Rattle.definitions.specs.Ir.{IrType, Instruction, binary_type, unless_void}
 use Rattle.definitions.specs.Lower.{LoweringError, Lowering, Value, Callee, context_fn, poseidon_fn, merkle_proof_fn, user_fn, callee, two_of, count, result_value, in_scope, struct_name_of, storage_named, struct_named, field_position}

@@ -2,14 +2,14 @@
 use Rattle.std.specs.Prelude.{ℕ, zero, suc, ◌-◌, ◌%◌, List, [], ◌∷◌, ◌++◌, map, false, get_or, take, drop, set}
 use Rattle.std.proofs.Math.Option.{none}
 use Rattle.definitions.specs.Fields.{bytes}
-use Rattle.definitions.specs.Result.{ok, ◌>>=◌, ◌>>◌}
+use Rattle.definitions.specs.Result.{ok, ◌>>=◌}
 use Rattle.definitions.specs.Ast.{Param, Function, Contract}
 use Rattle.definitions.specs.Ir.{IrType, Terminator}
 use Rattle.definitions.specs.Records.{small, ty, item, group, write_values, write_record}
 use Rattle.definitions.specs.ProgramSheet.{param_item}
 use Rattle.definitions.specs.Lower.{Lowering, Value, parse_ir_type, own_return_type}
 use Rattle.lower_walk.specs.Log.{counted}
-use Rattle.lower_walk.specs.Held.{HeldName, Held}
+use Rattle.lower_walk.specs.Held.{Held}
 use Rattle.lower_walk.specs.Stmts.{LogCtx, with_log, init_local, terminate_if_open, walk_stmts}
 
 -- `FnCtx::new`; the arrays may hold anything before

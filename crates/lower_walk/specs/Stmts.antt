@@ -2,13 +2,13 @@
 -- the log, from `starts` to `stops`. Untrusted: see Log.
 use Rattle.std.specs.Prelude.{ℕ, suc, ◌+◌, List, [], ◌∷◌, ◌++◌, Bool, true, false, leb, ltb, length, set}
 use Rattle.std.proofs.Math.Option.{none, some}
-use Rattle.definitions.specs.Result.{err, ok, ◌>>=◌, ◌>>◌, ok_or_else}
+use Rattle.definitions.specs.Result.{err, ok, ◌>>=◌, ok_or_else}
 use Rattle.definitions.specs.Ast.{BinOp, Expr, OptExpr, absent, present, Stmt, Stmts, snil, scons, OptStmts, no_else, else_do, Contract}
 use Rattle.definitions.specs.Ir.{IrType, Instruction, Terminator}
 use Rattle.definitions.specs.Records.{pick}
 use Rattle.definitions.specs.Lower.{LoweringError, Lowering, in_scope, storage_named}
 use Rattle.lower_walk.specs.Log.{Log, log_instr, close}
-use Rattle.lower_walk.specs.Held.{HeldName, Held, names}
+use Rattle.lower_walk.specs.Held.{Held, names}
 use Rattle.lower_walk.specs.Exprs.{walk_expr, walk_expr_value, walk_args}
 
 pub record LogCtx : Type 0 where

@@ -2,14 +2,14 @@
 use mathlib.Core.Path.{◌≡◌, refl, ap, sym, ◌∙◌, subst}
 use mathlib.Core.List.{List, [], ◌∷◌, ◌++◌, map}
 use mathlib.Core.Option.{Option, none, some}
-use Prim.Native.Nat.{ℕ, ◌+◌, ◌≤◌, ◌<◌}
+use Prim.Native.Nat.{ℕ, ◌+◌, ◌<◌}
 use native.Mathlib.Omega.{arith}
 use borrow.Author.Tests.{ltb-true, ltb-false}
 use lib.Dec.{eqb, ltb}
 use lib.ListN.{length, length-append}
-use Rattle.definitions.specs.Result.{Result, ok, ◌>>=◌, ok_or_else}
+use Rattle.definitions.specs.Result.{ok, ◌>>=◌, ok_or_else}
 use Rattle.definitions.specs.Fields.{le}
-use Rattle.definitions.specs.Ir.{InstrNode, BasicBlock, IrFunction, find}
+use Rattle.definitions.specs.Ir.{BasicBlock, IrFunction, find}
 use Rattle.definitions.specs.Bench.{outcome, unset, Machine, with_top, into_block, go_to}
 use Rattle.definitions.proofs.Results.{by_test}
 use Rattle.program_nodes.specs.Offsets.{block_id_at, records_at}
@@ -18,7 +18,7 @@ use Rattle.verify_lookup.specs.Found.{BlockFound}
 use Rattle.machine_slots.specs.Slots.{block_results, blocks_results, param_id, value_ids, index_of, Among}
 use Rattle.machine_slots.proofs.Indices.{index_high, in_front, behind}
 use Rattle.machine_state.specs.Frames.{function_in, WritesOwn, BlocksWriteOwn, no_blocks, blocks, FramePlaced, at_block}
-use Rattle.machine_state.specs.Running.{BlockLeft, Running, Gone, Goes}
+use Rattle.machine_state.specs.Running.{BlockLeft, Gone, Goes}
 use Rattle.machine_state.specs.declared.UnderWay.{UnderWay}
 use Rattle.machine_state.specs.declared.Halt.TheVariants as halts
 use Rattle.machine_state.specs.declared.Advance.TheVariants.{Going, Stopped}

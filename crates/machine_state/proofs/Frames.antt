@@ -1,5 +1,5 @@
 -- What a store changes of what a frame's cells hold. Assumes nothing.
-use mathlib.Core.Path.{◌≡◌, refl, ap, sym, ◌∙◌}
+use mathlib.Core.Path.{◌≡◌, ap, sym, ◌∙◌}
 use mathlib.Core.Bool.{Bool}
 use mathlib.Core.List.{List, [], ◌∷◌}
 use mathlib.Core.Logic.{◌⊎◌, inl, inr}
@@ -10,7 +10,6 @@ use borrow.Author.Tests.{eqb-true, eqb-false, lt-ltb, le-ltb, ltb-true, ltb-fals
 use lib.Dec.{eqb, ltb}
 use lib.ListN.{length}
 use Rattle.definitions.specs.Ir.{IrFunction}
-use Rattle.definitions.specs.Records.{pick}
 use Rattle.definitions.specs.Bench.{Notes, word_at, bytes_for}
 use Rattle.definitions.proofs.Results.{by_test}
 use Rattle.machine_memory.specs.Cells.{cell_width, cell, stored, emptied, cleared}

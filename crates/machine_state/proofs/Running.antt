@@ -1,11 +1,11 @@
 -- The machine and the code side by side: what a store to the frame on top does. Assumes nothing.
-use mathlib.Core.Path.{◌≡◌, refl, ap, sym, ◌∙◌}
-use mathlib.Core.List.{List, [], ◌∷◌}
+use mathlib.Core.Path.{◌≡◌, refl, sym, ◌∙◌}
+use mathlib.Core.List.{List}
 use mathlib.Core.Logic.{inl}
 use mathlib.Core.Option.{Option, none, some}
 use Prim.Native.Nat.{ℕ, ◌+◌, ◌*◌, ◌^◌, ◌≤◌, ◌<◌}
 use native.Mathlib.Omega.{arith}
-use lib.ListN.{length, drop}
+use lib.ListN.{length}
 use Rattle.definitions.specs.Bench.{Open, Waiting, Machine, word_at, with_top, note_result, note_local, give_result, bytes_for}
 use Rattle.machine_memory.specs.Cells.{cell_width, cell, stored, emptied}
 use Rattle.machine_slots.specs.Slots.{Among, slot_for}

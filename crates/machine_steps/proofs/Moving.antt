@@ -1,27 +1,27 @@
 -- A step from the machine's side: the next entry of the block, and the block moved on behind it. What a function of a kind promises is then the step. Assumes nothing.
-use mathlib.Core.Path.{◌≡◌, refl, ap, sym, ◌∙◌, subst}
+use mathlib.Core.Path.{◌≡◌, refl, ap, sym, subst}
 use mathlib.Core.List.{List, [], ◌∷◌}
-use mathlib.Core.Option.{Option, none, some}
-use Prim.Native.Nat.{ℕ, ◌+◌, ◌≤◌, ◌<◌}
+use mathlib.Core.Option.{Option, some}
+use Prim.Native.Nat.{ℕ, ◌+◌, ◌<◌}
 use native.Mathlib.Omega.{arith}
 use lib.ListN.{length}
-use Rattle.definitions.specs.Result.{Result, ◌>>=◌, ok_or_else}
+use Rattle.definitions.specs.Result.{◌>>=◌, ok_or_else}
 use Rattle.definitions.specs.Fields.{le}
 use Rattle.definitions.specs.Records.{opt_from}
 use Rattle.definitions.specs.Ir.{InstrNode, BasicBlock, IrFunction, Terminator}
 use Rattle.definitions.specs.Bench.{outcome, unset, Machine, Lent, plain_words, with_top, into_block, step_terminator, step_next, step_block}
-use Rattle.program_nodes.specs.Offsets.{fields_at, own_at}
+use Rattle.program_nodes.specs.Offsets.{fields_at}
 use Rattle.program_nodes.specs.Positions.{kind_here, stop_here, instr_here, size_here, instrs_here, term_here, terminator_here}
 use Rattle.program_nodes.proofs.Walk.{InstrStep, TermStep, instrs_step, instrs_term, instrs_end, terminator_instr, terminator_term, terminator_end}
 use Rattle.machine_slots.specs.Slots.{id_or_none, block_results, Among}
 use Rattle.machine_slots.proofs.Indices.{among}
 use Rattle.machine_slots.proofs.Places.{results_step}
-use Rattle.machine_state.specs.Frames.{function_in, ids_in, WritesBelow, WritesOwn, more, FramePlaced, at_block}
+use Rattle.machine_state.specs.Frames.{function_in, WritesBelow, WritesOwn, more, FramePlaced, at_block}
 use Rattle.machine_state.specs.Running.{BlockLeft, BlockRest, Running, Gone, InstrReady, instr_step}
 use Rattle.machine_state.specs.declared.UnderWay.{UnderWay}
 use Rattle.machine_state.specs.declared.Halt.TheVariants as halts
 use Rattle.machine_state.specs.declared.Advance.{Advance}
-use Rattle.machine_state.specs.declared.Advance.TheVariants.{Going, Stopped}
+use Rattle.machine_state.specs.declared.Advance.TheVariants.{Stopped}
 use Rattle.machine_state.proofs.Blocks.{among_right}
 use Rattle.machine_steps.specs.Steps.{written_local}
 

@@ -1,23 +1,22 @@
 -- A list of operands, asked for one by one. Assumes nothing.
-use mathlib.Core.Path.{◌≡◌, refl, ap, sym, ◌∙◌, subst}
+use mathlib.Core.Path.{◌≡◌, refl, sym, subst}
 use mathlib.Core.Bool.{Bool, true, false}
 use mathlib.Core.List.{List, [], ◌∷◌}
-use mathlib.Core.Option.{Option, none, some}
+use mathlib.Core.Option.{none, some}
 use Prim.Native.Nat.{ℕ, zero, suc, ◌+◌, ◌-◌, ◌*◌, ◌/◌, ◌≤◌, ◌<◌}
 use native.Mathlib.Numerals.{sub-one}
 use native.Mathlib.Omega.{arith}
 use lib.ListN.{length}
-use Rattle.definitions.specs.Result.{Result, err, ok, ◌>>=◌, ◌>>◌, ok_or_else}
+use Rattle.definitions.specs.Result.{Result, err, ok, ◌>>=◌, ◌>>◌}
 use Rattle.definitions.specs.Fields.{le}
 use Rattle.definitions.specs.Records.{read_item, read_items, size_of}
-use Rattle.definitions.specs.Bench.{Stop, outcome, unset, Machine, word_at, value_words, step_instr}
+use Rattle.definitions.specs.Bench.{Stop, Machine, word_at, value_words, step_instr}
 use Rattle.program_nodes.specs.Offsets.{event_args_at}
 use Rattle.program_nodes.specs.Positions.{stop_here, ids_here, instr_here}
 use Rattle.machine_state.specs.Frames.{ValueIs}
 use Rattle.machine_state.specs.Running.{Running, Gone, Does}
 use Rattle.machine_state.specs.declared.UnderWay.{UnderWay}
 use Rattle.machine_state.specs.declared.Halt.TheVariants as halts
-use Rattle.machine_state.specs.declared.Advance.{Advance}
 use Rattle.machine_state.specs.declared.Advance.TheVariants.{Going, Stopped}
 use Rattle.machine_steps.specs.Steps.{AreThere, AllAsked}
 use Rattle.machine_state.proofs.Asking.{found, lacking, value}

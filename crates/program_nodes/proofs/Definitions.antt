@@ -18,7 +18,7 @@ use Rattle.definitions.specs.Grammar.{value_and_type}
 use Rattle.definitions.specs.Records.{pick, Item, ok_item, ok_items, opt_from, number_of, type_of, read_item, read_items, size_of, read_records}
 use Rattle.definitions.proofs.Sheets.Passed.{read_end, both_true}
 use Rattle.program_nodes.specs.Offsets.{param_count_at, first_param_at, records_at, fields_at}
-use Rattle.program_nodes.specs.Positions.{Numbered, type_here, TypeAt, kind_here, stop_here, instr_here, InstrPlace, BlockFrom, BlocksFrom, params_here, FunctionHere}
+use Rattle.program_nodes.specs.Positions.{type_here, TypeAt, kind_here, stop_here, instr_here, InstrPlace, BlockFrom, BlocksFrom, params_here, FunctionHere}
 use Rattle.program_nodes.specs.Definitions.{Definition, param_definitions, result_definition, block_definitions, blocks_definitions, params_of, definitions_of, first_definition, place_of, type_of_definition, first_place, first_type}
 use Rattle.program_nodes.specs.declared.Function.{Function}
 use Rattle.program_nodes.proofs.Records.{placed}

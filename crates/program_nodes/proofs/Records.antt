@@ -19,7 +19,7 @@ use Rattle.definitions.proofs.Sheets.Passed.{both_true}
 use Rattle.definitions.proofs.Sheets.Lines.{OfRows, Given, by_lines}
 use Rattle.definitions.proofs.Sheets.Singles.{items_from, after, Valid, Own, own}
 use Rattle.program_nodes.specs.Offsets.{head_width, fields_at}
-use Rattle.program_nodes.specs.Positions.{raw_opt, TypeAt, type_here, ids_here, instr_here, size_here, has_type, type_offset, by_rule, rule_test, InstrPlace, InstrTo}
+use Rattle.program_nodes.specs.Positions.{raw_opt, type_here, ids_here, instr_here, size_here, has_type, type_offset, by_rule, rule_test, InstrPlace}
 
 -- what is known of the instruction of kind k at q, whose own values are vs
 pub record InstrAt (s : List ℕ) (q stop k : ℕ) (vs : List FieldValue) : Type 0 where

@@ -7,11 +7,11 @@ use Prim.Native.Nat.{ℕ, ◌+◌, ◌^◌, ◌≤◌, ◌<◌}
 use native.Mathlib.Omega.{arith}
 use lib.Dec.{eqb}
 use borrow.Author.Tests.{eq-eqb, ne_eqb, le-leb, lt-leb}
-use Rattle.definitions.specs.Ir.{IrType, result_type}
+use Rattle.definitions.specs.Ir.{IrType}
 use Rattle.definitions.specs.Records.{pick}
 use Rattle.ir.specs.Kinds.{rule_number}
 use Rattle.program_nodes.specs.Offsets.{own_at}
-use Rattle.program_nodes.specs.Positions.{raw_opt, Numbered, type_here, TypeAt, has_type, type_offset, instr_here, by_rule, InstrPlace, ResultNumbered}
+use Rattle.program_nodes.specs.Positions.{Numbered, type_here, TypeAt, has_type, type_offset, by_rule, InstrPlace, ResultNumbered}
 use Rattle.program_nodes.proofs.Records.{own_typed, call_kind}
 use Rattle.program_nodes.proofs.Types.{raw_unless}
 

@@ -1,17 +1,16 @@
 -- The walk over the records of a program sheet that passed: those of a block, and blocks. Assumes nothing.
 use mathlib.Core.Path.{◌≡◌, refl, ap, ap₂, ◌∙◌, subst}
-use mathlib.Core.Bool.{Bool, true, false}
 use mathlib.Core.List.{List, [], ◌∷◌, ◌++◌, map}
 use mathlib.Core.Option.{Option, none, some}
 use Prim.Native.Nat.{ℕ, ◌+◌, ◌≤◌, ◌<◌}
 use native.Mathlib.Omega.{arith}
-use lib.Dec.{leb, eqb, lit≤}
+use lib.Dec.{lit≤}
 use lib.ListN.{length}
 use borrow.Author.Tests.{le-leb, lt-leb}
 use Rattle.definitions.specs.Fields.{le}
 use Rattle.definitions.specs.Ir.{Instruction}
 use Rattle.definitions.specs.Grammar.{Class, Entry, up_to, optional, Field, single, Pattern, done, perhaps, many, origin, rows}
-use Rattle.definitions.specs.Records.{pick, FieldValue, opt_from, read_item, size_of, fields_end, read_values, node, Trees, tnil, tcons, read_records, gather}
+use Rattle.definitions.specs.Records.{FieldValue, opt_from, read_item, size_of, fields_end, read_values, node, Trees, tnil, tcons, read_records, gather}
 use Rattle.definitions.specs.ProgramSheet.{own_of, terminator_of, instr_node_of, term_of, first_of, block_of}
 use Rattle.definitions.specs.Fine.{Head, Fine}
 use Rattle.definitions.proofs.Sheets.Passed.{read_end, read_step}

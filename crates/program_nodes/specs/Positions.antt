@@ -7,7 +7,7 @@ use Rattle.definitions.specs.Ir.{IrType, tag_of, name_of, unless_void, Instructi
 use Rattle.definitions.specs.Grammar.{Class, up_to, ir_type, value_and_type, done, perhaps, many}
 use Rattle.definitions.specs.Records.{pick, Item, ok_type, ok_items, number_of, type_of, type_from, opt_from, read_items, read_records, gather}
 use Rattle.definitions.specs.InstrTable.{kind_of}
-use Rattle.definitions.specs.Verify.{block_ids, function_ids}
+use Rattle.definitions.specs.Verify.{function_ids}
 use Rattle.definitions.specs.ProgramSheet.{binary_of, instr_node_of, block_of, term_of, first_of, ir_function_of}
 use Rattle.definitions.specs.Fine.{Fine}
 use Rattle.ir.specs.Kinds.{rule_number}

@@ -10,17 +10,16 @@ ghost use Rattle.console.specs.Input.{InputFits};
 
 use console::Input;
 use format::MOST;
-use libc::STDOUT_FILENO;
 use lines::{LINE, LOWERED_LINE};
 
 // Reads n bytes to the start of `sheet`, fewer if the input ends. Where `sheet` is too short, it reads nothing.
-fn read_sheet(n: usize, sheet: &mut [u8]) -> Input
+fn read_sheet(rt: &HostRuntime, n: usize, sheet: &mut [u8]) -> Input
     ensures { InputFits result sheet.new }
 {
     if sheet.len() < n {
         return Input::Failed;
     }
-    console::read(&mut sheet[..n])
+    console::read(rt, &mut sheet[..n])
 }
 
 // The longest sheet of a list: a byte more than a sheet may have, so that refusal 1 occurs.
@@ -40,9 +39,9 @@ fn no_head() -> Head {
     }
 }
 
-fn read_head() -> Head {
+fn read_head(rt: &HostRuntime) -> Head {
     let mut head = [0u8; 5];
-    let Input::Read(n) = console::read(&mut head) else {
+    let Input::Read(n) = console::read(rt, &mut head) else {
         return no_head();
     };
     if n < 5 {
@@ -66,48 +65,48 @@ fn answer_line(asked: u8, sheet: &[u8], out: &mut [u8; LINE]) -> usize
 }
 
 // Prints the line of a contract sheet that is lowered.
-fn print_lowered(sheet: &[u8]) -> bool {
+fn print_lowered(rt: &HostRuntime, sheet: &[u8]) -> bool {
     let mut out = [0u8; MOST];
     let mut text = [0u8; LOWERED_LINE];
     let k = lines::lower_line(sheet, &mut out, &mut text);
-    io::write_all(STDOUT_FILENO, &text[..k])
+    rt.write_all(&text[..k]).is_ok()
 }
 
 // Prints the line of the answer to anything else that is asked.
-fn print_answer(asked: u8, sheet: &[u8]) -> bool {
+fn print_answer(rt: &HostRuntime, asked: u8, sheet: &[u8]) -> bool {
     let mut text = [0u8; LINE];
     let k = answer_line(asked, sheet, &mut text);
-    io::write_all(STDOUT_FILENO, &text[..k])
+    rt.write_all(&text[..k]).is_ok()
 }
 
-fn print_line(asked: u8, sheet: &[u8]) -> bool {
+fn print_line(rt: &HostRuntime, asked: u8, sheet: &[u8]) -> bool {
     if asked == b'L' {
-        return print_lowered(sheet);
+        return print_lowered(rt, sheet);
     }
-    print_answer(asked, sheet)
+    print_answer(rt, asked, sheet)
 }
 
 // Reads one sheet, prints its line, and answers whether there was one.
-fn replay_one() -> bool {
-    let head = read_head();
+fn replay_one(rt: &HostRuntime) -> bool {
+    let head = read_head(rt);
     let n = head.length;
     if head.asked == 0 || LONGEST < n {
         return false;
     }
     let mut sheet = io::large_buffer();
-    let Input::Read(got) = read_sheet(n, &mut sheet) else {
+    let Input::Read(got) = read_sheet(rt, n, &mut sheet) else {
         return false;
     };
-    print_line(head.asked, &sheet[..got])
+    print_line(rt, head.asked, &sheet[..got])
 }
 
 // A proved loop has to end, so it counts its turns down.
-fn main() {
-    if !console::has_args(0, b"replay < LIST") {
+fn main(rt: HostRuntime) {
+    if !console::has_args(&rt, 0, b"replay < LIST") {
         return;
     }
     let mut turns = u64::MAX;
-    while 0 < turns && replay_one() {
+    while 0 < turns && replay_one(&rt) {
         turns -= 1;
     }
 }

@@ -6,8 +6,13 @@ use Prim.Native.Nat.{ℕ}
 use borrow.Author.Tests.{ne_eqb}
 use Rattle.definitions.specs.Grammar.{Line, kind, rows}
 use Rattle.definitions.specs.Records.{row_in}
-use Rattle.sheet.specs.Codes.{row_of, row_coded, RowIs}
+use Rattle.sheet.specs.Codes.{fields, field_in, fields_from, classes, class_of, child, pattern_from, class_coded, coded_from, body_coded, with_origin, row_of, row_coded, RowIs}
 use Rattle.sheet.proofs.Arms.{Others, passed_over}
+
+-- all that a row computes by: an answer that unfolds this unfolds those
+unfoldable pub in_full : Type 0
+unfolding fields field_in fields_from classes class_of child pattern_from class_coded coded_from body_coded with_origin row_of row_coded row_in rows
+in_full = Unit {0}
 
 pub arm : {k j x : ℕ} → k ≡ j → row_of x ≡ row_in j rows → row_coded x ≡ true → RowIs k x
 arm {x = x} e a b = subst⁻¹ (λ (i : ℕ). RowIs i x) e (record { is = a; ok = b })

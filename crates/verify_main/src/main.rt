@@ -7,15 +7,15 @@
 use console::Input;
 use lines::LINE;
 
-fn main() {
-    if !console::has_args(0, b"verify_main < SHEET") {
+fn main(rt: HostRuntime) {
+    if !console::has_args(&rt, 0, b"verify_main < SHEET") {
         return;
     }
     let mut sheet = io::large_buffer();
-    let Input::Read(n) = console::read(&mut sheet) else {
+    let Input::Read(n) = console::read(&rt, &mut sheet) else {
         return;
     };
     let mut text = [0u8; LINE];
     let k = lines::verify_line(&sheet[..n], &mut text);
-    console::print(&text[..k]);
+    console::print(&rt, &text[..k]);
 }

@@ -1,6 +1,5 @@
 -- `analyze`: the check of the sheet, then the bodies. Assumes nothing.
 use mathlib.Core.Path.{◌≡◌, sym, ap, ◌∙◌}
-use borrow.Author.Rules.{rules}
 use Rattle.definitions.specs.Result.{Result, Done}
 use Rattle.definitions.specs.Answers.{Refusal}
 use Rattle.sheet.specs.Forms.{check_of}

@@ -1,8 +1,7 @@
 -- `analyze_functions`: the functions by their places. The loop's invariant (`Turning`): what is left gives what all give. Assumes nothing.
-use Prim.Native.Nat.{◌-◌}
 use native.Mathlib.Omega.{arith}
 use borrow.Author.Rules.{rules}
-use Rattle.analyze.proofs.Turning.{Turning, begins, goes_on, refuses, ends}
+use Rattle.analyze.proofs.Turning.{begins, goes_on, refuses, ends}
 use Rattle.analyze.proofs.analyze_functions.Goals as goal
 
 pub loop-i-init : goal.loop-i-init

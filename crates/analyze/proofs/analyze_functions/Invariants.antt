@@ -1,8 +1,6 @@
 -- `analyze_functions`: the functions by their places. The loop's invariant (`Turning`): what is left gives what all give. Assumes nothing.
 use Prim.Native.Nat.{◌-◌}
-use native.Mathlib.Omega.{arith}
-use borrow.Author.Rules.{rules}
-use Rattle.analyze.proofs.Turning.{Turning, begins, goes_on, refuses, ends}
+use Rattle.analyze.proofs.Turning.{Turning}
 use Rattle.analyze.proofs.analyze_functions.Given as goal
 
 abbrev pub invariant-loop-i : goal.invariant-loop-i

@@ -1,7 +1,6 @@
 -- `analyze_long`: no name is known in 65536 zeros, and 2064 entries hold all names of the sheet. Assumes nothing.
 use Prim.Native.Nat.{ℕ}
 use native.Mathlib.Omega.{arith}
-use borrow.Author.Rules.{rules}
 use lib.ListN.{length-replicate}
 use Rattle.analyze_env.proofs.Chains.{zeros_known}
 use Rattle.analyze.proofs.analyze_long.Goals as goal

@@ -1,7 +1,6 @@
 -- `analyze_short`: no name is known in 1024 zeros, and 80 entries hold all names of the sheet. Assumes nothing.
 use Prim.Native.Nat.{ℕ}
 use native.Mathlib.Omega.{arith}
-use borrow.Author.Rules.{rules}
 use lib.ListN.{length-replicate}
 use Rattle.analyze_env.proofs.Chains.{zeros_known}
 use Rattle.analyze.proofs.analyze_short.Goals as goal

@@ -1,11 +1,9 @@
 -- `insert_params`: the parameters one by one. The loop's invariant (`Going`): what is left gives what the whole gives. Assumes nothing.
 use mathlib.Core.Path.{ap, ◌∙◌}
-use Prim.Native.Nat.{◌-◌}
 use native.Mathlib.Omega.{arith}
-use borrow.Author.Rules.{rules}
 use Rattle.definitions.specs.Sema.{from_str}
 use Rattle.definitions.specs.Analyze.{known}
-use Rattle.analyze.proofs.Knowing.{Going, begins, goes_on, ends}
+use Rattle.analyze.proofs.Knowing.{begins, goes_on, ends}
 use Rattle.analyze.proofs.insert_params.Goals as goal
 
 pub loop-i-init : goal.loop-i-init

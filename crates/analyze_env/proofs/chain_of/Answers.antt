@@ -1,6 +1,5 @@
 -- `analyze_env::chain_of`: by the number of chains. Assumes nothing.
 use native.Mathlib.Omega.{arith}
-use borrow.Author.Rules.{rules}
 use borrow.Author.Tests.{lt-ltb, le-ltb}
 use Rattle.analyze_env.specs.Known.{chain_of}
 use Rattle.analyze_env.proofs.chain_of.Goals as goal

@@ -1,6 +1,5 @@
 -- `analyze_env::differs`: types are told apart by their codes. Assumes nothing.
 use mathlib.Core.Path.{sym, ◌∙◌}
-use borrow.Author.Rules.{rules}
 use Rattle.analyze_env.specs.Known.{as_ty}
 use Rattle.analyze_env.proofs.Packed.{left_unknown, right_unknown, same_type, other_type}
 use Rattle.analyze_env.proofs.differs.Goals as goal

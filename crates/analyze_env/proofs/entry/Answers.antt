@@ -1,6 +1,5 @@
 -- `analyze_env::entry`: the three parts do not meet. Assumes nothing.
 use native.Mathlib.Omega.{arith}
-use borrow.Author.Rules.{rules}
 use Rattle.analyze_env.specs.Known.{as_ty}
 use Rattle.analyze_env.proofs.Packed.{packed}
 use Rattle.analyze_env.proofs.entry.Goals as goal

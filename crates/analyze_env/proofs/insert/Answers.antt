@@ -1,5 +1,4 @@
 -- `analyze_env::insert`: the store is above what was known, and its chain has it for a head. Assumes nothing.
-use borrow.Author.Rules.{rules}
 use Rattle.analyze_env.proofs.Chains.{inserted}
 use Rattle.analyze_env.proofs.insert.Goals as goal
 

@@ -1,11 +1,8 @@
 -- `analyze_env::lookup`: along the links of the name's chain. Assumes nothing.
 use mathlib.Core.Path.{ap, ◌∙◌}
 use mathlib.Core.Option.{some}
-use native.Mathlib.Omega.{arith}
-use lib.ListN.{length}
-use borrow.Author.Rules.{rules}
 use Rattle.analyze_env.specs.Known.{name_in, link_in}
-use Rattle.analyze_env.proofs.Chains.{Looking, begun, hit, falls, miss, none_left}
+use Rattle.analyze_env.proofs.Chains.{begun, hit, falls, miss, none_left}
 use Rattle.analyze_env.proofs.lookup.Goals as goal
 
 pub loop-i-init : goal.loop-i-init

@@ -1,7 +1,6 @@
 -- `analyze_env::ty_code`: a known type's own code, or the code of Unknown. Assumes nothing.
 use mathlib.Core.Path.{ap, sym, ◌∙◌}
 use native.Mathlib.Omega.{arith}
-use borrow.Author.Rules.{rules}
 use Rattle.analyze_env.specs.Known.{as_ty, ty_code}
 use Rattle.analyze_env.proofs.ty_code.Goals as goal
 

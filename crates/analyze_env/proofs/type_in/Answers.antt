@@ -1,5 +1,4 @@
 -- `analyze_env::type_in`: by the code. Assumes nothing.
-use borrow.Author.Rules.{rules}
 use Rattle.ir.specs.Types.{as_type}
 use Rattle.analyze_env.proofs.Packed.{unknown_in, known_in}
 use Rattle.analyze_env.proofs.type_in.Goals as goal

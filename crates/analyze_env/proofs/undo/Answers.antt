@@ -1,10 +1,8 @@
 -- `analyze_env::undo`: the newest entry's chain gets back the head from before it. Assumes nothing.
 use mathlib.Core.Path.{◌≡◌, sym}
-use Prim.Native.Nat.{◌≤◌}
 use native.Mathlib.Omega.{arith}
-use lib.ListN.{length, length-set}
-use borrow.Author.Rules.{rules}
-use Rattle.analyze_env.specs.Known.{Known, name_in, link_in}
+use lib.ListN.{length-set}
+use Rattle.analyze_env.specs.Known.{name_in, link_in}
 use Rattle.analyze_env.proofs.Chains.{dropped}
 use Rattle.analyze_env.proofs.undo.Goals as goal
 

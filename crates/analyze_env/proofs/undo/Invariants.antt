@@ -1,11 +1,8 @@
 -- `analyze_env::undo`: the newest entry's chain gets back the head from before it. Assumes nothing.
-use mathlib.Core.Path.{◌≡◌, sym}
+use mathlib.Core.Path.{◌≡◌}
 use Prim.Native.Nat.{◌≤◌}
-use native.Mathlib.Omega.{arith}
-use lib.ListN.{length, length-set}
-use borrow.Author.Rules.{rules}
-use Rattle.analyze_env.specs.Known.{Known, name_in, link_in}
-use Rattle.analyze_env.proofs.Chains.{dropped}
+use lib.ListN.{length}
+use Rattle.analyze_env.specs.Known.{Known}
 use Rattle.analyze_env.proofs.undo.Given as goal
 
 abbrev pub invariant-loop-n : goal.invariant-loop-n

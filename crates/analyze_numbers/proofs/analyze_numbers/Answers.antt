@@ -1,6 +1,5 @@
 -- `analyze_numbers::analyze_numbers`: by the answer's case. Assumes nothing.
 use Rattle.analyze_numbers.proofs.Told.{of_answer}
-use borrow.Author.Rules.{rules}
 use Rattle.analyze_numbers.proofs.analyze_numbers.Goals as goal
 
 pub returns-in-Accepted : goal.returns-in-Accepted

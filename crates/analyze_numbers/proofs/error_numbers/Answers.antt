@@ -1,6 +1,5 @@
 -- `analyze_numbers::error_numbers`: by the error's case. Assumes nothing.
 use Rattle.analyze_numbers.proofs.Told.{of_error}
-use borrow.Author.Rules.{rules}
 use Rattle.analyze_numbers.proofs.error_numbers.Goals as goal
 
 pub returns-in-AssignMismatch : goal.returns-in-AssignMismatch

@@ -1,6 +1,5 @@
 -- `after_plain`: the answer with the names that are known. Assumes nothing.
 use mathlib.Core.Path.{sym, ap}
-use borrow.Author.Rules.{rules}
 use Rattle.analyze_state.specs.declared.BodyCheck.{BodyCheck}
 use Rattle.analyze_simple.specs.Checked.{after_check}
 use Rattle.analyze_simple.proofs.after_plain.Goals as goal

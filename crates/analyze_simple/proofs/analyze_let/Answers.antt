@@ -1,6 +1,5 @@
 -- `analyze_let`: the expression's type, and one name more. Assumes nothing.
 use native.Mathlib.Omega.{arith}
-use borrow.Author.Rules.{rules}
 use Rattle.contract_nodes.proofs.Children.{bounds}
 use Rattle.contract_nodes.proofs.Stmts.{let_at}
 use Rattle.contract_nodes.proofs.Parts.{let_long}

@@ -2,7 +2,6 @@
 use mathlib.Core.Path.{◌≡◌, sym, ◌∙◌}
 use Prim.Native.Nat.{ℕ}
 use native.Mathlib.Omega.{arith}
-use borrow.Author.Rules.{rules}
 use Rattle.sheet.specs.Passed.{record_kind}
 use Rattle.contract_nodes.proofs.Children.{bounds}
 use Rattle.contract_nodes.proofs.Stmts.{last_kind}
@@ -43,11 +42,10 @@ analyze_emit-requires c = asked (goal.at.analyze_emit-requires c).After-read-kin
 -- the kind that is none of 10 to 19
 pub analyze_expr_stmt-requires : goal.analyze_expr_stmt-requires
 analyze_expr_stmt-requires c =
-    let z = c.in_default.in_default-own.rest in
     let p = c.requires.stmt_here in
     let q = p.1.1 in
     let e = c.read-kind.ensures.0 in
-    (p.0, (p.1.0, last_kind p.0 q.no_let (λ x. z.0.0.0.0.0.1 (e ∙ x)) (λ x. z.0.0.0.0.1 (e ∙ x)) (λ x. z.0.0.0.1 (e ∙ x)) (λ x. z.0.0.1 (e ∙ x)) q.no_if q.no_while q.no_for (λ x. z.0.1 (e ∙ x)) (λ x. z.1 (e ∙ x))))
+    (p.0, (p.1.0, last_kind p.0 q.no_let (λ x. omega (arith, e)) (λ x. omega (arith, e)) (λ x. omega (arith, e)) (λ x. omega (arith, e)) q.no_if q.no_while q.no_for (λ x. omega (arith, e)) (λ x. omega (arith, e))))
 
 pub returns-in-11 : goal.returns-in-11
 returns-in-11 c = let p = c.requires.stmt_here in plain_done _ _ p.0 p.1.0.known c.requires.room c.analyze_constrain.result c.analyze_constrain.ensures c.after_plain.ensures

@@ -1,7 +1,6 @@
 -- `bounds`: both bounds of a For have types. Assumes nothing.
 use mathlib.Core.Path.{sym, subst}
 use Prim.Native.Nat.{ℕ}
-use borrow.Author.Rules.{rules}
 use Rattle.definitions.specs.Grammar.{Class}
 use Rattle.contract_nodes.specs.Ready.{Ready}
 use Rattle.contract_nodes.proofs.Parts.{stop_is}

@@ -1,6 +1,6 @@
 -- What lowering writes into its instructions fits: types, constants, offsets, slots, names; and there are few blocks and locals. Assumes nothing.
 use Prim.Native.Nat.{ℕ, suc, ◌*◌, ◌≤◌, ◌<◌, ◌^◌}
-use mathlib.Core.Path.{◌≡◌, refl, sym, ◌∙◌, subst}
+use mathlib.Core.Path.{◌≡◌, refl, sym, subst}
 use mathlib.Core.List.{List, [], ◌∷◌, ◌++◌}
 use mathlib.Core.Option.{Option, none, some}
 use mathlib.Core.Bool.{Bool, true, false}
@@ -8,12 +8,12 @@ use lib.Dec.{eqb, lit<, lit≤}
 use lib.ListN.{length, length-append}
 use native.Mathlib.Omega.{arith}
 use Rattle.definitions.specs.Ast.{BinOp, Param, Struct, Contract, Function, StorageField}
-use Rattle.definitions.specs.Ir.{BasicBlock, InstrNode, Instruction, IrFunction, IrType, Terminator, binary_type, result_type, unless_void, update}
-use Rattle.definitions.specs.Lower.{FnCtx, Value, add_instr, fresh_value, lower_function, lower_params, new_ctx, own_return_type, parse_ir_type, push_instr, put_terminator, set_scopes, set_terminator, switch_to, with_block, with_local}
-use Rattle.definitions.specs.Names.{by_name, or_this, last_named}
-use Rattle.definitions.specs.Result.{◌>>=◌, ok}
-use Rattle.definitions.specs.Sema.{return_type, function_named}
-use Rattle.definitions.proofs.Results.{by_test, some_none, ok_inj, err_ok, taking, taking_some, last_below, first_below}
+use Rattle.definitions.specs.Ir.{BasicBlock, InstrNode, Instruction, IrFunction, IrType, binary_type, result_type, unless_void, update}
+use Rattle.definitions.specs.Lower.{FnCtx, Value, add_instr, fresh_value, lower_function, new_ctx, own_return_type, parse_ir_type, push_instr, put_terminator, set_scopes, set_terminator, switch_to, with_block, with_local}
+use Rattle.definitions.specs.Names.{or_this, last_named}
+use Rattle.definitions.specs.Result.{ok}
+use Rattle.definitions.specs.Sema.{return_type}
+use Rattle.definitions.proofs.Results.{by_test, some_none, last_below, first_below}
 use Rattle.definitions.proofs.Runs.Safe.{In, here, there, in_nil}
 use Rattle.definitions.proofs.Traversal.Keeps.{given, Known, Made, From, valued, Keeps}
 use Rattle.definitions.proofs.Traversal.Lowering.{by_name_lem, function_keeps}

@@ -14,9 +14,9 @@ use Rattle.definitions.specs.Result.{ok}
 use Rattle.definitions.specs.Run.{Pick, lacks, run}
 use Rattle.definitions.specs.Verify.{block_ids}
 use Rattle.definitions.proofs.Results.{by_test, ok_inj, taking, some_none}
-use Rattle.definitions.proofs.Runs.Safe.{In, here, there, Sub, sub_refl, sub_trans, sub_cons, sub_nil, in_nil, sub_pair, ids, GoodFn, find_hit, find_miss, never_lacks}
+use Rattle.definitions.proofs.Runs.Safe.{In, here, there, Sub, sub_refl, sub_trans, sub_cons, sub_nil, in_nil, ids, GoodFn, find_hit, find_miss, never_lacks}
 use Rattle.definitions.proofs.Runs.Blocks.{defs, Distinct, only, defs_none}
-use Rattle.definitions.proofs.Runs.Invariant.{Inv, weaken, opening, scopes_keep}
+use Rattle.definitions.proofs.Runs.Invariant.{Inv, weaken, scopes_keep}
 use Rattle.definitions.proofs.Runs.Keeping.{fns, hold_inv, Stands, stands_kept}
 use Rattle.definitions.proofs.Traversal.Keeps.{Post, bad, good, given, Known}
 use Rattle.definitions.proofs.Traversal.Lowering.{locals_of, defined_in, body_keeps}

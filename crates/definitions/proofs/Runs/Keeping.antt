@@ -1,7 +1,7 @@
 -- The invariant is kept at each of the things that lowering does: the traversal of lowering then keeps it. Assumes nothing.
 use Prim.Native.Nat.{ℕ, suc, ◌<◌}
-use mathlib.Core.Path.{◌≡◌, refl, sym, ◌∙◌, ap, subst}
-use mathlib.Core.List.{List, [], ◌∷◌, ◌++◌}
+use mathlib.Core.Path.{◌≡◌, refl, sym, ◌∙◌, subst}
+use mathlib.Core.List.{List, [], ◌∷◌}
 use mathlib.Core.Option.{Option, none, some}
 use mathlib.Core.Bool.{true, false}
 use lib.ListN.{length, length-append}
@@ -10,9 +10,9 @@ use Rattle.definitions.specs.Ast.{Contract, Function}
 use Rattle.definitions.specs.Ir.{BasicBlock, Instruction, IrType, Terminator, find, local_read, local_written, operands, result_type}
 use Rattle.definitions.specs.Lower.{FnCtx, Value, current_block_terminated, is_terminated, push_instr, result_id, set_scopes, set_terminator, switch_to, with_block, with_local}
 use Rattle.definitions.proofs.Results.{last_below}
-use Rattle.definitions.proofs.Runs.Safe.{callees, In, here, there, Sub, sub_refl, sub_trans, sub_nil, in_nil, sub_pair, sub_one, in_one, in_right, with_result, TermOk, ids}
+use Rattle.definitions.proofs.Runs.Safe.{callees, In, here, there, Sub, sub_refl, sub_nil, in_nil, sub_pair, sub_one, in_one, in_right, with_result, TermOk, ids}
 use Rattle.definitions.proofs.Runs.Invariant.{Inv, MayPush, push_keeps, term_keeps, weaken, opening, scopes_keep, switch_keeps, local_keeps, grown_keeps, upd, upd_new, upd_old}
-use Rattle.definitions.proofs.Traversal.Keeps.{Known, Spot, Made, From, Ends, valued, Keeps}
+use Rattle.definitions.proofs.Traversal.Keeps.{Known, Made, Ends, valued, Keeps}
 use Rattle.definitions.proofs.Traversal.Lowering.{id_in_lem}
 
 abbrev pub fns : Contract → ℕ

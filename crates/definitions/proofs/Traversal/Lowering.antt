@@ -1,9 +1,9 @@
 -- ONE TRAVERSAL OF LOWERING: what is kept at each of the things that lowering does (Keeps.antt) is kept by an expression and by a statement. Assumes nothing.
-use Prim.Native.Nat.{ℕ, ◌*◌, ◌≤◌, ◌<◌, ◌^◌}
+use Prim.Native.Nat.{ℕ, ◌*◌, ◌≤◌, ◌<◌}
 use mathlib.Core.Path.{◌≡◌, refl, sym, ◌∙◌, ap, subst}
 use mathlib.Core.List.{List, [], ◌∷◌, ◌++◌}
 use mathlib.Core.Option.{Option, none, some}
-use mathlib.Core.Bool.{Bool, true, false}
+use mathlib.Core.Bool.{true}
 use lib.Dec.{eqb, ltb, lit<, lit≤}
 use lib.ListN.{length}
 use borrow.Author.Tests.{ltb-true}
@@ -12,7 +12,7 @@ use Rattle.definitions.specs.Ast.{BinOp, Contract, Function, Param, Expr, Exprs,
 use Rattle.definitions.specs.Ir.{Instruction, IrFunction, IrType, Terminator, binary_type, result_type, unless_void}
 use Rattle.definitions.specs.Lower.{Callee, FnCtx, Lowered, Lowering, LoweringError, Scope, Value, callee, context_fn, count, current_block_terminated, defined, field_position, for_header, for_step, fresh_block, fresh_local, fresh_value, in_scope, init_local, ir_function, lookup_local, lower_args, lower_body, lower_call, lower_else, lower_expr, lower_expr_value, lower_function, lower_params, lower_return, lower_stmt, lower_stmts, merkle_proof_fn, need_value, new_ctx, parse_ir_type, popped, poseidon_fn, push_instr, push_value, result_value, set_scopes, set_terminator, storage_named, struct_named, struct_name_of, switch_to, terminate_if_open, three_blocks, two_of, unless_terminated, user_fn, with_block, with_local}
 use Rattle.definitions.specs.Names.{by_name}
-use Rattle.definitions.specs.Result.{◌>>=◌, err, ok, ok_or_else}
+use Rattle.definitions.specs.Result.{◌>>=◌, ok}
 use Rattle.definitions.specs.Sema.{function_named, return_type}
 use Rattle.definitions.proofs.Results.{by_test, some_none}
 use Rattle.definitions.proofs.Contracts.Bounds.{SmallExpr, SmallExprs, SmallOpt, SmallStmt, SmallStmts, SmallElse, SmallFunction}

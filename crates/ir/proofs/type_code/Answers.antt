@@ -1,7 +1,6 @@
 -- `ir::type_code`: an arm for each type. Assumes nothing.
 use mathlib.Core.Path.{refl}
 use native.Mathlib.Omega.{arith}
-use borrow.Author.Rules.{rules}
 use Rattle.ir.proofs.Codes.{coded}
 use Rattle.ir.proofs.type_code.Goals as goal
 

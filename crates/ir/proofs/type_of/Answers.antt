@@ -1,7 +1,6 @@
 -- `ir::type_of`: an arm for each tag. Assumes nothing.
 use mathlib.Core.Path.{◌≡◌, ap, sym, ◌∙◌}
 use Prim.Native.Nat.{ℕ}
-use borrow.Author.Rules.{rules}
 use borrow.Author.Tests.{ne_eqb}
 use Rattle.definitions.specs.Ir as defs
 use Rattle.definitions.specs.Records.{type_from}

@@ -4,7 +4,6 @@ use native.Mathlib.Omega.{arith}
 use lib.ListN.{length, take, length-set}
 use lib.Seq.{length-take-le}
 use Rattle.line_text.proofs.Hexed.{stored_length, finished}
-use borrow.Author.Rules.{rules}
 use Rattle.line_text.proofs.accepted_line.Goals as goal
 
 pub bounds-text-1 : goal.bounds-text-1

@@ -1,11 +1,9 @@
 -- `line_text::put_hex`: what is left of the bytes is stored from `at + 3 * i` on. Assumes nothing.
 use mathlib.Core.Path.{◌≡◌, refl, ◌∙◌}
-use Prim.Native.Nat.{◌+◌, ◌-◌, ◌*◌, ◌≤◌}
+use Prim.Native.Nat.{◌-◌}
 use native.Mathlib.Omega.{arith}
 use native.Mathlib.Nat.{add-zero, sub-zero}
-use borrow.Author.Rules.{rules}
-use lib.ListN.{length, length-set, take, drop}
-use lib.Seq.{sets}
+use lib.ListN.{length-set}
 use Rattle.definitions.specs.Lines.{hexed}
 use Rattle.line_text.proofs.Hexed.{hex_front}
 use Rattle.line_text.proofs.put_hex.Goals as goal

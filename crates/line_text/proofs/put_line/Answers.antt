@@ -1,6 +1,5 @@
 -- `line_text::put_line`: the line, then zeros. Assumes nothing.
 use native.Mathlib.Omega.{arith}
-use borrow.Author.Rules.{rules}
 use Rattle.line_text.proofs.Zeros.{cleared}
 use Rattle.line_text.proofs.put_line.Goals as goal
 

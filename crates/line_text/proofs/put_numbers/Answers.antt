@@ -1,14 +1,12 @@
 -- `line_text::put_numbers`: what is written, with the numbers that are left behind it, is the whole line; each number takes 21 bytes at most. Assumes nothing.
-use mathlib.Core.Path.{◌≡◌, refl, sym, ap, ◌∙◌, subst}
-use mathlib.Core.List.{List, [], ◌∷◌, ◌++◌}
-use Prim.Native.Nat.{ℕ, ◌+◌, ◌-◌, ◌*◌, ◌≤◌, ◌<◌}
+use mathlib.Core.Path.{◌≡◌, refl, ◌∙◌}
+use mathlib.Core.List.{[], ◌∷◌, ◌++◌}
 use native.Mathlib.Omega.{arith}
-use borrow.Author.Rules.{rules}
 use lib.ListN.{length, take, get_or, length-set}
 use lib.Seq.{length-take-le, get_or-take}
 use Rattle.definitions.specs.Lines.{decimal}
 use Rattle.digits.proofs.Putting.{stored}
-use Rattle.line_text.proofs.Spaced.{Goes, first, next, last}
+use Rattle.line_text.proofs.Spaced.{first, next, last}
 use Rattle.line_text.proofs.put_numbers.Goals as goal
 
 pub loop-i-init : goal.loop-i-init

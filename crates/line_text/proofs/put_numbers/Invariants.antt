@@ -1,14 +1,8 @@
 -- `line_text::put_numbers`: what is written, with the numbers that are left behind it, is the whole line; each number takes 21 bytes at most. Assumes nothing.
-use mathlib.Core.Path.{◌≡◌, refl, sym, ap, ◌∙◌, subst}
-use mathlib.Core.List.{List, [], ◌∷◌, ◌++◌}
-use Prim.Native.Nat.{ℕ, ◌+◌, ◌-◌, ◌*◌, ◌≤◌, ◌<◌}
-use native.Mathlib.Omega.{arith}
-use borrow.Author.Rules.{rules}
-use lib.ListN.{length, take, get_or, length-set}
-use lib.Seq.{length-take-le, get_or-take}
-use Rattle.definitions.specs.Lines.{decimal}
-use Rattle.digits.proofs.Putting.{stored}
-use Rattle.line_text.proofs.Spaced.{Goes, first, next, last}
+use mathlib.Core.Path.{◌≡◌}
+use Prim.Native.Nat.{◌+◌, ◌-◌, ◌*◌, ◌≤◌}
+use lib.ListN.{length, take}
+use Rattle.line_text.proofs.Spaced.{Goes}
 use Rattle.line_text.proofs.put_numbers.Given as goal
 
 abbrev pub invariant-loop-i : goal.invariant-loop-i

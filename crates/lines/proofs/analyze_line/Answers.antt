@@ -1,6 +1,5 @@
 -- `lines::analyze_line`: the line of the body check's answer. Assumes nothing.
 use mathlib.Core.Path.{ap, ◌∙◌}
-use borrow.Author.Rules.{rules}
 use Rattle.definitions.specs.Answers.{numbers_of}
 use Rattle.line_text.proofs.Zeros.{told, written}
 use Rattle.lines.proofs.analyze_line.Goals as goal

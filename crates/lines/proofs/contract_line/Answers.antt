@@ -1,6 +1,5 @@
 -- `lines::contract_line`: the line of what `check_contract` finds. Assumes nothing.
 use mathlib.Core.Path.{ap, ◌∙◌}
-use borrow.Author.Rules.{rules}
 use Rattle.definitions.specs.Answers.{numbers_of}
 use Rattle.line_text.proofs.Zeros.{told, written}
 use Rattle.lines.proofs.contract_line.Goals as goal

@@ -1,6 +1,5 @@
 -- `lines::verify_line`: the line of what `verify` answers. Assumes nothing.
 use mathlib.Core.Path.{ap, ◌∙◌}
-use borrow.Author.Rules.{rules}
 use Rattle.definitions.specs.Answers.{numbers_of}
 use Rattle.line_text.proofs.Zeros.{told, written}
 use Rattle.lines.proofs.verify_line.Goals as goal

@@ -1,6 +1,5 @@
 -- Each arm is told which kind it is for, at which `counted_up` and `HasRoom` compute.
 use mathlib.Core.Path.{refl}
-use borrow.Author.Rules.{rules}
 use native.Mathlib.Omega.{arith}
 use Rattle.lower_counters.proofs.counted_up.Goals as goal
 

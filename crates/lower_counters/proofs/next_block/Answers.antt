@@ -1,6 +1,5 @@
 -- The call of `next_of` says both parts of the answer.
 use mathlib.Core.Path.{refl}
-use borrow.Author.Rules.{rules}
 use Rattle.lower_counters.proofs.next_block.Goals as goal
 
 pub returns : goal.returns

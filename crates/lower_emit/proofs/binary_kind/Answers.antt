@@ -1,6 +1,5 @@
 -- `lower_emit::binary_kind`: an arm for each of the two that stand in another order, and one for the others. Assumes nothing.
 use mathlib.Core.Path.{refl}
-use borrow.Author.Rules.{rules}
 use Rattle.lower_emit.proofs.Codes.{plain_kind}
 use Rattle.lower_emit.proofs.binary_kind.Goals as goal
 

@@ -1,6 +1,5 @@
 -- `lower_emit::emit_assert`: the bytes are those of Assert. Assumes nothing.
 use mathlib.Core.Path.{refl}
-use borrow.Author.Rules.{rules}
 use Rattle.definitions.specs.Ir.{Instruction}
 use Rattle.lower_emit.proofs.Written.{appends}
 use Rattle.lower_emit.proofs.emit_assert.Goals as goal

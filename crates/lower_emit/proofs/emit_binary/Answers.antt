@@ -1,6 +1,5 @@
 -- `lower_emit::emit_binary`: the bytes are those of Binary, of any operator. Assumes nothing.
 use mathlib.Core.Path.{refl}
-use borrow.Author.Rules.{rules}
 use Rattle.definitions.specs.Ir.{Instruction}
 use Rattle.definitions.specs.ContractSheet.{op_of}
 use Rattle.ir.specs.Types.{as_type}

@@ -1,5 +1,4 @@
 -- `lower_emit::emit_branch`: the bytes are those of Branch. Assumes nothing.
-use borrow.Author.Rules.{rules}
 use Rattle.definitions.specs.Ir.{Terminator}
 use Rattle.lower_emit.proofs.Written.{closes}
 use Rattle.lower_emit.proofs.emit_branch.Goals as goal

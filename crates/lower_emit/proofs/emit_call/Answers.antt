@@ -1,6 +1,5 @@
 -- `lower_emit::emit_call`: the bytes are those of Call. Assumes nothing.
 use native.Mathlib.Omega.{arith}
-use borrow.Author.Rules.{rules}
 use Rattle.definitions.specs.Ir.{Instruction}
 use Rattle.ir.specs.Types.{as_type}
 use Rattle.lower_emit.specs.Emitted.{ids_of}

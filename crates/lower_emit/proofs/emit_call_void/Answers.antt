@@ -1,7 +1,6 @@
 -- `lower_emit::emit_call_void`: the bytes are those of Call, of type Void. Assumes nothing.
 use mathlib.Core.Path.{refl}
 use native.Mathlib.Omega.{arith}
-use borrow.Author.Rules.{rules}
 use Rattle.definitions.specs.Ir.{IrType, Instruction}
 use Rattle.lower_emit.specs.Emitted.{ids_of}
 use Rattle.lower_emit.proofs.Listed.{count_ids}

@@ -1,6 +1,5 @@
 -- `lower_emit::emit_context_read`: the bytes are those of ContextRead. Assumes nothing.
 use mathlib.Core.Path.{refl}
-use borrow.Author.Rules.{rules}
 use Rattle.definitions.specs.Ir.{Instruction}
 use Rattle.lower_emit.proofs.Written.{pushes}
 use Rattle.lower_emit.proofs.emit_context_read.Goals as goal

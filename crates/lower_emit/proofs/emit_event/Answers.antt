@@ -2,7 +2,6 @@
 use mathlib.Core.Path.{◌≡◌, refl}
 use native.Mathlib.Omega.{arith}
 use lib.ListN.{length}
-use borrow.Author.Rules.{rules}
 use Rattle.definitions.specs.Ir.{Instruction}
 use Rattle.lower_emit.specs.Emitted.{ids_of}
 use Rattle.lower_emit.proofs.Listed.{count_ids}

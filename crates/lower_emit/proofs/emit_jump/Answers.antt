@@ -1,5 +1,4 @@
 -- `lower_emit::emit_jump`: the bytes are those of Jump. Assumes nothing.
-use borrow.Author.Rules.{rules}
 use Rattle.definitions.specs.Ir.{Terminator}
 use Rattle.lower_emit.proofs.Written.{closes}
 use Rattle.lower_emit.proofs.emit_jump.Goals as goal

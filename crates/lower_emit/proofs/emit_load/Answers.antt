@@ -1,6 +1,5 @@
 -- `lower_emit::emit_load`: the bytes are those of Load. Assumes nothing.
 use mathlib.Core.Path.{refl}
-use borrow.Author.Rules.{rules}
 use Rattle.definitions.specs.Ir.{IrType, Instruction}
 use Rattle.lower_emit.proofs.Written.{pushes}
 use Rattle.lower_emit.proofs.emit_load.Goals as goal

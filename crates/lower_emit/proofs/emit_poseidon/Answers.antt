@@ -1,6 +1,5 @@
 -- `lower_emit::emit_poseidon`: the bytes are those of Poseidon. Assumes nothing.
 use mathlib.Core.Path.{refl}
-use borrow.Author.Rules.{rules}
 use Rattle.definitions.specs.Ir.{Instruction}
 use Rattle.lower_emit.proofs.Written.{pushes}
 use Rattle.lower_emit.proofs.emit_poseidon.Goals as goal

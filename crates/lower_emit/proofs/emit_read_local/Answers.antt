@@ -1,6 +1,5 @@
 -- `lower_emit::emit_read_local`: the bytes are those of ReadLocal. Assumes nothing.
 use mathlib.Core.Path.{refl}
-use borrow.Author.Rules.{rules}
 use Rattle.definitions.specs.Ir.{Instruction}
 use Rattle.ir.specs.Types.{as_type}
 use Rattle.lower_emit.proofs.Written.{pushes}

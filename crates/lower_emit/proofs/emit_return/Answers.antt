@@ -1,6 +1,5 @@
 -- `lower_emit::emit_return`: the bytes are those of Return. Assumes nothing.
 use mathlib.Core.Option.{some}
-use borrow.Author.Rules.{rules}
 use Rattle.definitions.specs.Ir.{Terminator}
 use Rattle.lower_emit.proofs.Written.{closes}
 use Rattle.lower_emit.proofs.emit_return.Goals as goal

@@ -1,6 +1,5 @@
 -- `lower_emit::emit_return_none`: the bytes are those of Return without a value. Assumes nothing.
 use mathlib.Core.Option.{none}
-use borrow.Author.Rules.{rules}
 use Rattle.definitions.specs.Ir.{Terminator}
 use Rattle.lower_emit.proofs.Written.{closes}
 use Rattle.lower_emit.proofs.emit_return_none.Goals as goal

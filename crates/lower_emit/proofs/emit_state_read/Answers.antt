@@ -1,6 +1,5 @@
 -- `lower_emit::emit_state_read`: the bytes are those of StateRead. Assumes nothing.
 use mathlib.Core.Path.{refl}
-use borrow.Author.Rules.{rules}
 use Rattle.definitions.specs.Ir.{IrType, Instruction}
 use Rattle.lower_emit.proofs.Written.{pushes}
 use Rattle.lower_emit.proofs.emit_state_read.Goals as goal

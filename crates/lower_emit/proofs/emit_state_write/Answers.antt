@@ -1,6 +1,5 @@
 -- `lower_emit::emit_state_write`: the bytes are those of StateWrite. Assumes nothing.
 use mathlib.Core.Path.{refl}
-use borrow.Author.Rules.{rules}
 use Rattle.definitions.specs.Ir.{Instruction}
 use Rattle.lower_emit.proofs.Written.{appends}
 use Rattle.lower_emit.proofs.emit_state_write.Goals as goal

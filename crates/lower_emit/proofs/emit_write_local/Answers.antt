@@ -1,6 +1,5 @@
 -- `lower_emit::emit_write_local`: the bytes are those of WriteLocal. Assumes nothing.
 use mathlib.Core.Path.{refl}
-use borrow.Author.Rules.{rules}
 use Rattle.definitions.specs.Ir.{Instruction}
 use Rattle.lower_emit.proofs.Written.{appends}
 use Rattle.lower_emit.proofs.emit_write_local.Goals as goal

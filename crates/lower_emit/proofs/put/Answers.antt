@@ -1,6 +1,5 @@
 -- `lower_emit::put`: the bytes are stored, or do not fit. Assumes nothing.
 use native.Mathlib.Omega.{arith}
-use borrow.Author.Rules.{rules}
 use Rattle.definitions.specs.Fields.{bytes}
 use Rattle.definitions.proofs.Fields.{length_bytes}
 use Rattle.lower_emit.proofs.Appending.{put_lost, put_kept}

@@ -1,5 +1,4 @@
 -- `lower_emit::put_call`: the record's own parts, then the ids. Assumes nothing.
-use borrow.Author.Rules.{rules}
 use Rattle.lower_emit.proofs.put_call.Goals as goal
 
 pub returns : goal.returns

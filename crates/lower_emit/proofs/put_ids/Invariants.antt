@@ -1,14 +1,8 @@
 -- `lower_emit::put_ids`: the first i ids are appended. Assumes nothing.
-use mathlib.Core.Path.{◌≡◌}
-use mathlib.Core.List.{List, ◌++◌, append_assoc, append-nil}
+use mathlib.Core.List.{List, ◌++◌}
 use Prim.Native.Nat.{ℕ, ◌-◌, ◌≤◌}
-use native.Mathlib.Numerals.{add-one}
-use native.Mathlib.Omega.{arith}
-use borrow.Author.Rules.{rules}
 use Rattle.lower_emit.specs.Emitted.{ids_of}
 use Rattle.lower_emit.specs.Bytes.{id_bytes, Added}
-use Rattle.lower_emit.proofs.Appending.{◌then◌}
-use Rattle.lower_emit.proofs.Listed.{one_more}
 use Rattle.lower_emit.proofs.put_ids.Given as goal
 
 abbrev pub invariant-loop-i : goal.invariant-loop-i

@@ -1,5 +1,4 @@
 -- `lower_emit::put_record`: the parts are appended one after the other. Assumes nothing.
-use borrow.Author.Rules.{rules}
 use Rattle.lower_emit.specs.Bytes.{record_bytes}
 use Rattle.lower_emit.proofs.Appending.{◌then◌}
 use Rattle.lower_emit.proofs.put_record.Goals as goal

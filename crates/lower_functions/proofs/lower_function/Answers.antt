@@ -1,7 +1,6 @@
 -- `lower_function`: the parameters, the statements and the Return of an open last block. Assumes nothing.
 use mathlib.Core.Path.{subst}
 use native.Mathlib.Omega.{arith}
-use borrow.Author.Rules.{rules}
 use Rattle.contract_nodes.proofs.Tops.{function_at_lem}
 use Rattle.lower_flow.specs.Flows.{StepGrown}
 use Rattle.lower_functions.proofs.Begin.{new_sound, opened, Started, params_refused, ready, sound, stmts_refused, stmts_passed}

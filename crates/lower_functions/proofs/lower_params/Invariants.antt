@@ -1,10 +1,6 @@
 -- `lower_params`: the parameters one by one. The loop's invariant (`Going`): what is left gives what the whole gives. Assumes nothing.
-use mathlib.Core.Path.{refl, ap, ◌∙◌}
 use Prim.Native.Nat.{◌-◌}
-use native.Mathlib.Omega.{arith}
-use borrow.Author.Rules.{rules}
-use Rattle.definitions.specs.Lower.{parse_ir_type}
-use Rattle.lower_functions.proofs.Begin.{taken_sound, Going, begins, ends, stops_at, goes_on}
+use Rattle.lower_functions.proofs.Begin.{Going}
 use Rattle.lower_functions.proofs.lower_params.Given as goal
 
 abbrev pub invariant-loop-i : goal.invariant-loop-i

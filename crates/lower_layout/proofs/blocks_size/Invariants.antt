@@ -1,12 +1,8 @@
 -- `lower_layout::blocks_size`: the bytes of the blocks before k are added up. Assumes nothing.
-use mathlib.Core.Path.{◌≡◌, refl, ◌∙◌}
+use mathlib.Core.Path.{◌≡◌}
 use Prim.Native.Nat.{◌-◌, ◌*◌, ◌≤◌}
-use native.Mathlib.Numerals.{add-one}
-use native.Mathlib.Omega.{arith}
-use borrow.Author.Rules.{rules}
 use Rattle.lower_state.specs.State.{starts_of, stops_of}
 use Rattle.lower_layout.specs.Stored.{blocks_size}
-use Rattle.lower_layout.proofs.Records.{marked}
 use Rattle.lower_layout.proofs.blocks_size.Given as goal
 
 abbrev pub invariant-loop-k : goal.invariant-loop-k

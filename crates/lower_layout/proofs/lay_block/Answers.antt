@@ -2,7 +2,6 @@
 use mathlib.Core.Path.{refl}
 use mathlib.Core.List.{append_assoc}
 use native.Mathlib.Omega.{arith}
-use borrow.Author.Rules.{rules}
 use Rattle.lower_layout.proofs.Storing.{◌then◌, wrote}
 use Rattle.lower_layout.proofs.Records.{slice_length, block_is}
 use Rattle.lower_layout.proofs.lay_block.Goals as goal

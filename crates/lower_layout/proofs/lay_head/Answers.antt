@@ -2,7 +2,6 @@
 use mathlib.Core.Path.{refl, ap, ◌∙◌}
 use Prim.Native.Nat.{ℕ}
 use native.Mathlib.Omega.{arith}
-use borrow.Author.Rules.{rules}
 use Rattle.definitions.specs.Lower.{own_return_type}
 use Rattle.definitions.specs.Records.{opt_from, write_type}
 use Rattle.contract_nodes.proofs.Tops.{function_at_lem}

@@ -1,21 +1,15 @@
 -- `lower_layout::lay_locals`: the count, and then the types before i are written. Assumes nothing.
 use mathlib.Core.Path.{◌≡◌, refl, ap, ◌∙◌}
-use Prim.Native.Nat.{◌+◌, ◌-◌, ◌*◌, ◌≤◌}
 use native.Mathlib.Nat.{zero-add}
 use native.Mathlib.Omega.{arith}
 use borrow.Author.Rules.{rules}
-use lib.ListN.{length}
 use Rattle.definitions.specs.Records.{write_type}
-use Rattle.lower_layout.specs.Stored.{Put}
-use Rattle.lower_layout.proofs.Storing.{◌then◌, wrote, put_as, run, run_none, run_next}
+use Rattle.lower_layout.proofs.Storing.{◌then◌, wrote, put_as, run_none, run_next}
 use Rattle.lower_layout.proofs.Records.{local_at, locals_are, same_type}
 use Rattle.lower_layout.proofs.lay_locals.Goals as goal
 
 pub loop-i-init : goal.loop-i-init
 loop-i-init c = (omega arith, omega arith, refl, run_none _ _ _)
-
-pub bounds-tables-k : goal.bounds-tables-k
-bounds-tables-k c = omega (arith, c.shared_slice_known-in-loop-i-1.given (0 + c.loop-i.i))
 
 pub loop-i-preserved : goal.loop-i-preserved
 loop-i-preserved c =

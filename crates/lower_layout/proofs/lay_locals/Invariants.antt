@@ -1,14 +1,10 @@
 -- `lower_layout::lay_locals`: the count, and then the types before i are written. Assumes nothing.
-use mathlib.Core.Path.{◌≡◌, refl, ap, ◌∙◌}
+use mathlib.Core.Path.{◌≡◌}
 use Prim.Native.Nat.{◌+◌, ◌-◌, ◌*◌, ◌≤◌}
-use native.Mathlib.Nat.{zero-add}
-use native.Mathlib.Omega.{arith}
-use borrow.Author.Rules.{rules}
 use lib.ListN.{length}
-use Rattle.definitions.specs.Records.{write_type}
 use Rattle.lower_layout.specs.Stored.{Put}
-use Rattle.lower_layout.proofs.Storing.{◌then◌, wrote, put_as, run, run_none, run_next}
-use Rattle.lower_layout.proofs.Records.{local_at, locals_are, same_type}
+use Rattle.lower_layout.proofs.Storing.{run}
+use Rattle.lower_layout.proofs.Records.{local_at}
 use Rattle.lower_layout.proofs.lay_locals.Given as goal
 
 abbrev pub invariant-loop-i : goal.invariant-loop-i

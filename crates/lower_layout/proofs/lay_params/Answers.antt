@@ -1,14 +1,11 @@
 -- `lower_layout::lay_params`: the count, and then the parameters before i are written. Assumes nothing.
 use mathlib.Core.Path.{◌≡◌, refl, ap, ◌∙◌}
-use Prim.Native.Nat.{◌+◌, ◌-◌, ◌*◌, ◌≤◌}
 use native.Mathlib.Omega.{arith}
 use borrow.Author.Rules.{rules}
-use lib.ListN.{length}
 use Rattle.definitions.specs.Lower.{parse_ir_type}
 use Rattle.definitions.specs.Records.{write_type}
-use Rattle.lower_layout.specs.Stored.{Put}
-use Rattle.lower_layout.proofs.Storing.{◌then◌, wrote, put_as, run, run_none, run_next}
-use Rattle.lower_layout.proofs.Records.{param_at, params_are}
+use Rattle.lower_layout.proofs.Storing.{◌then◌, wrote, put_as, run_none, run_next}
+use Rattle.lower_layout.proofs.Records.{params_are}
 use Rattle.lower_layout.proofs.lay_params.Goals as goal
 
 pub loop-i-init : goal.loop-i-init

@@ -1,14 +1,10 @@
 -- `lower_layout::lay_params`: the count, and then the parameters before i are written. Assumes nothing.
-use mathlib.Core.Path.{◌≡◌, refl, ap, ◌∙◌}
+use mathlib.Core.Path.{◌≡◌}
 use Prim.Native.Nat.{◌+◌, ◌-◌, ◌*◌, ◌≤◌}
-use native.Mathlib.Omega.{arith}
-use borrow.Author.Rules.{rules}
 use lib.ListN.{length}
-use Rattle.definitions.specs.Lower.{parse_ir_type}
-use Rattle.definitions.specs.Records.{write_type}
 use Rattle.lower_layout.specs.Stored.{Put}
-use Rattle.lower_layout.proofs.Storing.{◌then◌, wrote, put_as, run, run_none, run_next}
-use Rattle.lower_layout.proofs.Records.{param_at, params_are}
+use Rattle.lower_layout.proofs.Storing.{run}
+use Rattle.lower_layout.proofs.Records.{param_at}
 use Rattle.lower_layout.proofs.lay_params.Given as goal
 
 abbrev pub invariant-loop-i : goal.invariant-loop-i

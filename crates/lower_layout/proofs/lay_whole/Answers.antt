@@ -1,6 +1,5 @@
 -- `lower_layout::lay_whole`: the start and the blocks, if there is room for both. Assumes nothing.
 use native.Mathlib.Omega.{arith}
-use borrow.Author.Rules.{rules}
 use Rattle.contract_nodes.proofs.Tops.{function_at_lem}
 use Rattle.lower_layout.proofs.Storing.{laid_none, laid_put}
 use Rattle.lower_layout.proofs.Records.{blocks_room, whole_length, whole_put}

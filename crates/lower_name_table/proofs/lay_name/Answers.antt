@@ -2,7 +2,6 @@
 use mathlib.Core.Path.{refl}
 use mathlib.Core.List.{append_assoc}
 use native.Mathlib.Omega.{arith}
-use borrow.Author.Rules.{rules}
 use Rattle.lower_layout.proofs.Storing.{◌then◌, wrote, laid_none, laid_put}
 use Rattle.lower_name_table.proofs.Names.{name_is, name_length}
 use Rattle.lower_name_table.proofs.lay_name.Goals as goal

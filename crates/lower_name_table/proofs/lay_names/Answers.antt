@@ -1,12 +1,9 @@
 -- `lower_name_table::lay_names`: the names of the functions before a place are laid down. Assumes nothing.
 use mathlib.Core.Path.{sym, ◌∙◌}
-use Prim.Native.Nat.{◌-◌}
 use native.Mathlib.Omega.{arith}
-use borrow.Author.Rules.{rules}
-use lib.ListN.{length}
 use Rattle.contract_nodes.proofs.Tops.{next_top}
 use Rattle.lower_layout.proofs.Storing.{laid_none}
-use Rattle.lower_name_table.proofs.Names.{Named, start, no_function_lem, next_old, next_new, all_named}
+use Rattle.lower_name_table.proofs.Names.{start, no_function_lem, next_old, next_new, all_named}
 use Rattle.lower_name_table.proofs.lay_names.Goals as goal
 use Rattle.lower_name_table.proofs.lay_names.Goals.{then-read-eq-FUNCTION+then-not-named_before, then-read-eq-FUNCTION+else-not-named_before, else-read-eq-FUNCTION}
 

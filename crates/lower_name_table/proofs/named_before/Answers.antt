@@ -1,12 +1,10 @@
 -- `lower_name_table::named_before`: the records that are left have the name if all have it. Assumes nothing.
 use mathlib.Core.Path.{◌≡◌, sym, ◌∙◌}
-use mathlib.Core.Bool.{Bool, false}
-use Prim.Native.Nat.{◌-◌}
+use mathlib.Core.Bool.{false}
 use native.Mathlib.Omega.{arith}
-use borrow.Author.Rules.{rules}
 use borrow.Author.Tests.{eq-eqb, ne_eqb}
-use Rattle.contract_nodes.proofs.Tops.{Tops, next_top, contract_at}
-use Rattle.lower_name_table.specs.NameTable.{is_named, Span}
+use Rattle.contract_nodes.proofs.Tops.{next_top, contract_at}
+use Rattle.lower_name_table.specs.NameTable.{is_named}
 use Rattle.lower_name_table.proofs.Names.{found, passed, none_left}
 use Rattle.lower_name_table.proofs.named_before.Goals as goal
 use Rattle.lower_name_table.proofs.named_before.Goals.{then-read-eq-FUNCTION+else-read_u16-name, else-read-eq-FUNCTION}

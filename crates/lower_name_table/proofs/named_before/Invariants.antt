@@ -1,14 +1,8 @@
 -- `lower_name_table::named_before`: the records that are left have the name if all have it. Assumes nothing.
-use mathlib.Core.Path.{◌≡◌, sym, ◌∙◌}
-use mathlib.Core.Bool.{Bool, false}
-use mathlib.Core.Logic.{⊎_elim}
+use mathlib.Core.Bool.{Bool}
 use Prim.Native.Nat.{◌-◌}
-use native.Mathlib.Omega.{arith}
-use borrow.Author.Rules.{rules}
-use borrow.Author.Tests.{eq-eqb, ne_eqb}
-use Rattle.contract_nodes.proofs.Tops.{Tops, next_top, contract_at}
-use Rattle.lower_name_table.specs.NameTable.{is_named, Span}
-use Rattle.lower_name_table.proofs.Names.{found, passed, none_left}
+use Rattle.contract_nodes.proofs.Tops.{Tops}
+use Rattle.lower_name_table.specs.NameTable.{Span}
 use Rattle.lower_name_table.proofs.named_before.Given as goal
 
 abbrev pub invariant-loop-place : goal.invariant-loop-place

@@ -1,5 +1,4 @@
 -- `lower_numbers::check_numbers`: by what the check found. Assumes nothing.
-use borrow.Author.Rules.{rules}
 use Rattle.sheet.specs.Forms.{check_of}
 use Rattle.lower_numbers.proofs.Told.{of_check}
 use Rattle.lower_numbers.proofs.check_numbers.Goals as goal

@@ -1,6 +1,5 @@
 -- `lower_numbers::lower_numbers`: by the answer's case. Assumes nothing.
 use Rattle.lower_numbers.proofs.Told.{of_lowered}
-use borrow.Author.Rules.{rules}
 use Rattle.lower_numbers.proofs.lower_numbers.Goals as goal
 
 pub returns-in-Accepted : goal.returns-in-Accepted

@@ -1,6 +1,5 @@
 -- `lower_numbers::lowering_numbers`: by the error's case. Assumes nothing.
 use Rattle.lower_numbers.proofs.Told.{of_lowering}
-use borrow.Author.Rules.{rules}
 use Rattle.lower_numbers.proofs.lowering_numbers.Goals as goal
 
 pub returns-in-UndefinedVariable : goal.returns-in-UndefinedVariable

@@ -1,6 +1,5 @@
 -- `lower_state::new_ctx`: block 0 is taken from the counters. Assumes nothing.
 use mathlib.Core.Path.{refl}
-use borrow.Author.Rules.{rules}
 use Rattle.lower_state.proofs.new_ctx.Goals as goal
 
 pub returns : goal.returns

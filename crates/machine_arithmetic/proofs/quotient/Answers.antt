@@ -1,5 +1,4 @@
 -- `machine_arithmetic::quotient`: the divisor is 0, or not. Assumes nothing.
-use Rattle.std.proofs.Common.{rules}
 use Rattle.machine_arithmetic.proofs.Products.{no_quotient, the_quotient}
 use Rattle.machine_arithmetic.proofs.quotient.Goals as goal
 

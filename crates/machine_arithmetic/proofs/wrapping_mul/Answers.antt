@@ -1,5 +1,5 @@
 -- `machine_arithmetic::wrapping_mul`: no product of two halves leaves a word. Assumes nothing.
-use Rattle.std.proofs.Common.{◌∙◌, arith, rules}
+use Rattle.std.proofs.Common.{◌∙◌, arith}
 use Rattle.machine_arithmetic.proofs.Products.{small, product}
 use Rattle.machine_arithmetic.proofs.wrapping_mul.Goals as goal
 

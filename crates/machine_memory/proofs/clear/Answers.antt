@@ -1,5 +1,4 @@
 -- `machine_memory::clear`: the part comes back as zeros. Assumes nothing.
-use borrow.Author.Rules.{rules}
 use Rattle.machine_memory.proofs.Zeros.{part_cleared}
 use Rattle.machine_memory.proofs.clear.Goals as goal
 

@@ -1,6 +1,5 @@
 -- `machine_memory::forget`. Assumes nothing.
 use mathlib.Core.Path.{refl}
-use borrow.Author.Rules.{rules}
 use Rattle.machine_memory.specs.Cells.{emptied}
 use Rattle.machine_memory.proofs.forget.Goals as goal
 

@@ -1,5 +1,4 @@
 -- `machine_memory::get`: the mark is 0, or the word stands before it. Assumes nothing.
-use borrow.Author.Rules.{rules}
 use Rattle.machine_memory.proofs.Cells.{is_unset, is_set}
 use Rattle.machine_memory.proofs.get.Goals as goal
 

@@ -2,7 +2,6 @@
 use mathlib.Core.Path.{ap}
 use mathlib.Core.List.{List}
 use Prim.Native.Nat.{ℕ, ◌+◌}
-use borrow.Author.Rules.{rules}
 use lib.ListN.{set}
 use Rattle.machine_memory.specs.Cells.{word_width, stored}
 use Rattle.machine_memory.proofs.put.Goals as goal

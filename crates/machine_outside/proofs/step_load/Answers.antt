@@ -1,6 +1,5 @@
 -- `machine_outside::step_load`: its base, then the next outside result. Assumes nothing.
 use mathlib.Core.Path.{ap, sym, ◌∙◌}
-use borrow.Author.Rules.{rules}
 use Rattle.machine_memory.specs.Cells.{word_of}
 use Rattle.machine_outside.proofs.Lent.{load_lacks, load_does}
 use Rattle.machine_outside.proofs.step_load.Goals as goal

@@ -1,6 +1,5 @@
 -- `machine_outside::step_poseidon`: both operands, then the next outside result. Assumes nothing.
 use mathlib.Core.Path.{ap, sym, ◌∙◌}
-use borrow.Author.Rules.{rules}
 use Rattle.machine_memory.specs.Cells.{word_of}
 use Rattle.machine_outside.proofs.Lent.{poseidon_lacks_left, poseidon_lacks_right, poseidon_does}
 use Rattle.machine_outside.proofs.step_poseidon.Goals as goal

@@ -1,6 +1,5 @@
 -- `machine_outside::step_state_read`: the slot, then the result takes its word. Assumes nothing.
 use native.Mathlib.Omega.{arith}
-use borrow.Author.Rules.{rules}
 use Rattle.machine_state.proofs.Asking.{given_id}
 use Rattle.machine_outside.proofs.Lent.{read_negative, read_past, read_does}
 use Rattle.machine_outside.proofs.step_state_read.Goals as goal

@@ -1,7 +1,6 @@
 -- `machine_outside::step_state_write`: the value, then the slot, which takes its word. Assumes nothing.
 use mathlib.Core.Path.{ap, sym, ◌∙◌}
 use native.Mathlib.Omega.{arith}
-use borrow.Author.Rules.{rules}
 use Rattle.machine_memory.specs.Cells.{word_of}
 use Rattle.machine_outside.proofs.Lent.{write_lacks, write_negative, write_past, write_does}
 use Rattle.machine_outside.proofs.step_state_write.Goals as goal

@@ -1,6 +1,5 @@
 -- `machine_outside::step_store`: both operands, then the run ends. Assumes nothing.
 use mathlib.Core.Path.{ap, sym, ◌∙◌}
-use borrow.Author.Rules.{rules}
 use Rattle.machine_memory.specs.Cells.{word_of}
 use Rattle.machine_outside.proofs.Lent.{store_lacks_base, store_lacks_value, store_stops}
 use Rattle.machine_outside.proofs.step_store.Goals as goal

@@ -1,6 +1,5 @@
 -- `machine_outside::take_outside`: the next one, if there is one. Assumes nothing.
 use native.Mathlib.Omega.{arith}
-use borrow.Author.Rules.{rules}
 use Rattle.machine_state.proofs.Asking.{given_id}
 use Rattle.machine_outside.proofs.Lent.{takes_none, takes_one}
 use Rattle.machine_outside.proofs.take_outside.Goals as goal

@@ -1,6 +1,5 @@
 -- `machine_slots::ids_of`: nothing was found, so all ids were counted. Assumes nothing.
 use mathlib.Core.Path.{refl}
-use borrow.Author.Rules.{rules}
 use Rattle.machine_slots.proofs.Seeking.{all_counted}
 use Rattle.machine_slots.proofs.ids_of.Goals as goal
 

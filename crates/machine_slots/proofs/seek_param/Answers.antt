@@ -3,12 +3,10 @@ use mathlib.Core.Path.{◌≡◌, refl}
 use mathlib.Core.List.{◌++◌}
 use Prim.Native.Nat.{◌+◌, ◌-◌, ◌*◌, ◌≤◌}
 use native.Mathlib.Omega.{arith}
-use borrow.Author.Rules.{rules}
-use lib.ListN.{length}
 use Rattle.definitions.specs.Records.{opt_from}
 use Rattle.program_nodes.specs.Offsets.{first_param_at}
-use Rattle.machine_slots.specs.Slots.{id_or_none, none_yet}
-use Rattle.machine_slots.proofs.Seeking.{SeekLeft, all_left, not_found, found_here, seek_on}
+use Rattle.machine_slots.specs.Slots.{id_or_none}
+use Rattle.machine_slots.proofs.Seeking.{all_left, not_found, found_here, seek_on}
 use Rattle.machine_slots.proofs.Places.{param_ids, params_front, no_params, params_are}
 use Rattle.machine_slots.proofs.seek_param.Goals as goal
 use Rattle.machine_slots.proofs.seek_param.Goals.{After-seek_id-seek, After-struct_known-2-1}

@@ -1,15 +1,10 @@
 -- `machine_slots::seek_param`: what is left of the parameters is searched from p on. Assumes nothing.
-use mathlib.Core.Path.{◌≡◌, refl}
-use mathlib.Core.List.{◌++◌}
-use Prim.Native.Nat.{◌+◌, ◌-◌, ◌*◌, ◌≤◌}
-use native.Mathlib.Omega.{arith}
-use borrow.Author.Rules.{rules}
+use mathlib.Core.Path.{◌≡◌}
+use Prim.Native.Nat.{◌+◌, ◌*◌, ◌≤◌}
 use lib.ListN.{length}
-use Rattle.definitions.specs.Records.{opt_from}
-use Rattle.program_nodes.specs.Offsets.{first_param_at}
-use Rattle.machine_slots.specs.Slots.{id_or_none, none_yet}
-use Rattle.machine_slots.proofs.Seeking.{SeekLeft, all_left, not_found, found_here, seek_on}
-use Rattle.machine_slots.proofs.Places.{param_ids, params_front, no_params, params_are}
+use Rattle.machine_slots.specs.Slots.{none_yet}
+use Rattle.machine_slots.proofs.Seeking.{SeekLeft}
+use Rattle.machine_slots.proofs.Places.{param_ids}
 use Rattle.machine_slots.proofs.seek_param.Given as goal
 
 abbrev pub invariant-loop-left : goal.invariant-loop-left

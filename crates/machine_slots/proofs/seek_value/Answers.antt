@@ -1,13 +1,12 @@
 -- `machine_slots::seek_value`: the parameters, then the search goes on from the block at b. Assumes nothing.
-use Prim.Native.Nat.{◌+◌, ◌-◌, ◌≤◌}
+use Prim.Native.Nat.{◌+◌}
 use native.Mathlib.Omega.{arith}
-use borrow.Author.Rules.{rules}
 use Rattle.definitions.proofs.Sheets.Steps.{low}
 use Rattle.program_nodes.specs.Offsets.{records_at}
-use Rattle.program_nodes.specs.Positions.{stop_here, instrs_here, blocks_here, ir_of, BlocksFrom}
+use Rattle.program_nodes.specs.Positions.{stop_here, instrs_here}
 use Rattle.program_nodes.proofs.Walk.{BlockStep, block_here_lem}
-use Rattle.machine_slots.specs.Slots.{block_results, blocks_results, value_ids, Sought, none_yet}
-use Rattle.machine_slots.proofs.Seeking.{over_front, SeekLeft, rest_left, not_found, found_here, seek_on}
+use Rattle.machine_slots.specs.Slots.{block_results, value_ids, Sought}
+use Rattle.machine_slots.proofs.Seeking.{over_front, rest_left, not_found, found_here, seek_on}
 use Rattle.machine_slots.proofs.Places.{blocks_results_lem, no_blocks}
 use Rattle.machine_slots.proofs.seek_value.Goals as goal
 use Rattle.machine_slots.proofs.seek_value.Goals.{After-seek_in_block-seek, In-loop-b}

@@ -1,5 +1,4 @@
 -- `machine_slots::slot_of`: the id itself, or its position. Assumes nothing.
-use borrow.Author.Rules.{rules}
 use Rattle.machine_slots.specs.Slots.{slot_for}
 use Rattle.machine_slots.proofs.slot_of.Goals as goal
 

@@ -1,7 +1,6 @@
 -- `machine_state::give`: the cell of its slot takes the word, where there is a value. Assumes nothing.
 use mathlib.Core.Path.{◌∙◌}
 use native.Mathlib.Omega.{arith}
-use borrow.Author.Rules.{rules}
 use Rattle.machine_state.proofs.Placing.{room_is, slot_fits, given_none, given_some}
 use Rattle.machine_state.proofs.give.Goals as goal
 

@@ -1,6 +1,5 @@
 -- `machine_state::go_to`: the first block with the id, if there is one. Assumes nothing.
 use native.Mathlib.Omega.{arith}
-use borrow.Author.Rules.{rules}
 use Rattle.machine_state.proofs.Blocks.{nowhere, somewhere_at}
 use Rattle.machine_state.proofs.go_to.Goals as goal
 

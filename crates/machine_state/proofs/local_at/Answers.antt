@@ -1,6 +1,5 @@
 -- `machine_state::local_at`: its cell, if it is one of the locals. Assumes nothing.
 use native.Mathlib.Omega.{arith}
-use borrow.Author.Rules.{rules}
 use Rattle.machine_state.proofs.Placing.{room_is, local_in_lem, local_out}
 use Rattle.machine_state.proofs.local_at.Goals as goal
 

@@ -1,7 +1,6 @@
 -- `machine_state::unset`: the cell of its slot becomes unset, where there is a value. Assumes nothing.
 use mathlib.Core.Path.{◌∙◌}
 use native.Mathlib.Omega.{arith}
-use borrow.Author.Rules.{rules}
 use Rattle.machine_state.proofs.Placing.{room_is, slot_fits, forgotten_none, forgotten_some}
 use Rattle.machine_state.proofs.unset.Goals as goal
 

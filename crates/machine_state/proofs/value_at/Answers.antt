@@ -1,6 +1,5 @@
 -- `machine_state::value_at`: the cell of its slot, if that is within the frame. Assumes nothing.
 use native.Mathlib.Omega.{arith}
-use borrow.Author.Rules.{rules}
 use Rattle.machine_state.proofs.Placing.{room_is, value_in, value_out}
 use Rattle.machine_state.proofs.value_at.Goals as goal
 

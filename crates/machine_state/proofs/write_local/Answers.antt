@@ -1,7 +1,6 @@
 -- `machine_state::write_local`: the local's cell takes the word. Assumes nothing.
 use mathlib.Core.Path.{◌∙◌}
 use native.Mathlib.Omega.{arith}
-use borrow.Author.Rules.{rules}
 use Rattle.machine_state.proofs.Placing.{room_is, local_stored}
 use Rattle.machine_state.proofs.write_local.Goals as goal
 

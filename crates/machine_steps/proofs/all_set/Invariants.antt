@@ -1,9 +1,5 @@
 -- `machine_steps::all_set`: what is left of the operands decides for all of them. Assumes nothing.
-use mathlib.Core.Path.{ap, sym, ◌∙◌}
-use native.Mathlib.Omega.{arith}
-use borrow.Author.Rules.{rules}
-use Rattle.machine_memory.specs.Cells.{word_of}
-use Rattle.machine_steps.proofs.Operands.{AskLeft, all_to_ask, asked_on, asked_lacks, asked_all}
+use Rattle.machine_steps.proofs.Operands.{AskLeft}
 use Rattle.machine_steps.proofs.all_set.Given as goal
 
 abbrev pub invariant-loop-left : goal.invariant-loop-left

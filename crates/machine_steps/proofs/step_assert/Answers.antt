@@ -1,6 +1,5 @@
 -- `machine_steps::step_assert`: its operand, then it passes. Assumes nothing.
 use mathlib.Core.Path.{ap, sym, ◌∙◌}
-use borrow.Author.Rules.{rules}
 use Rattle.machine_memory.specs.Cells.{word_of}
 use Rattle.machine_steps.proofs.Doing.{assert_lacks, assert_passes}
 use Rattle.machine_steps.proofs.step_assert.Goals as goal

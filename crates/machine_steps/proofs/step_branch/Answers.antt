@@ -1,6 +1,5 @@
 -- `machine_steps::step_branch`: the condition, then to one of the blocks. Assumes nothing.
 use mathlib.Core.Path.{ap, sym, ◌∙◌}
-use borrow.Author.Rules.{rules}
 use Rattle.machine_memory.specs.Cells.{word_of}
 use Rattle.machine_steps.proofs.Doing.{branch_lacks, branch_else_lem, branch_then_lem}
 use Rattle.machine_steps.proofs.step_branch.Goals as goal

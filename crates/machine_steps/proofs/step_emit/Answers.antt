@@ -1,5 +1,4 @@
 -- `machine_steps::step_emit`: its operands, then it passes. Assumes nothing.
-use borrow.Author.Rules.{rules}
 use Rattle.machine_steps.proofs.Operands.{emit_passes, emit_lacks}
 use Rattle.machine_steps.proofs.step_emit.Goals as goal
 

@@ -1,5 +1,4 @@
 -- `machine_steps::step_jump`: to the block. Assumes nothing.
-use borrow.Author.Rules.{rules}
 use Rattle.machine_steps.proofs.Doing.{jump_goes}
 use Rattle.machine_steps.proofs.step_jump.Goals as goal
 

@@ -1,6 +1,5 @@
 -- `program_nodes::block_end`: the length of the block at b is read where there is one. Assumes nothing.
 use native.Mathlib.Omega.{arith}
-use borrow.Author.Rules.{rules}
 use Rattle.definitions.proofs.Sheets.Steps.{low}
 use Rattle.program_nodes.proofs.Walk.{block_here_lem}
 use Rattle.program_nodes.proofs.block_end.Goals as goal

@@ -1,7 +1,6 @@
 -- `program_nodes::function_at`: its numbers are read one after the other. Assumes nothing.
 use mathlib.Core.Path.{refl, ◌∙◌}
 use native.Mathlib.Omega.{arith}
-use borrow.Author.Rules.{rules}
 use Rattle.program_nodes.proofs.Functions.{function_fits, first_is, function_made_lem}
 use Rattle.program_nodes.proofs.function_at.Goals as goal
 

@@ -1,7 +1,6 @@
 -- `program_nodes::local_count`: there are as many as the count says. Assumes nothing.
 use mathlib.Core.Path.{ap, sym, ◌∙◌}
 use Prim.Native.Nat.{ℕ}
-use borrow.Author.Rules.{rules}
 use Rattle.definitions.specs.Fields.{le}
 use Rattle.program_nodes.proofs.Functions.{types_count}
 use Rattle.program_nodes.proofs.local_count.Goals as goal

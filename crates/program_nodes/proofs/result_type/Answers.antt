@@ -2,7 +2,6 @@
 use mathlib.Core.Path.{refl, sym, ◌∙◌}
 use Prim.Native.Nat.{◌+◌}
 use native.Mathlib.Omega.{arith}
-use borrow.Author.Rules.{rules}
 use Rattle.program_nodes.specs.Offsets.{own_at}
 use Rattle.program_nodes.proofs.ResultType.{type_first, type_second, own_type_lem, own, call_type_lem, call_void, call_typed, plain, no_rule}
 use Rattle.program_nodes.proofs.result_type.Goals as goal

@@ -1,6 +1,5 @@
 -- `program_nodes::type_at`: the four bytes are the type's number. Assumes nothing.
 use mathlib.Core.Path.{sym, ◌∙◌}
-use borrow.Author.Rules.{rules}
 use Rattle.program_nodes.proofs.Types.{raw_here}
 use Rattle.program_nodes.proofs.type_at.Goals as goal
 

@@ -1,14 +1,7 @@
 -- `reader::all_bytes`: the elements before i are below 256; those behind the end are 0. Assumes nothing.
-use mathlib.Core.Path.{◌≡◌, refl}
-use mathlib.Core.Bool.{Bool, true, false}
 use mathlib.Core.List.{List}
-use Prim.Native.Nat.{ℕ, ◌+◌, ◌-◌, ◌≤◌, ◌<◌}
-use native.Mathlib.Omega.{arith}
-use borrow.Author.Rules.{rules}
-use borrow.Author.Tests.{leb-true, leb-false}
-use lib.Dec.{leb}
-use lib.ListN.{length, get_or, get_or-eq_default}
-use Rattle.definitions.specs.Fields.{Bytes}
+use Prim.Native.Nat.{ℕ, ◌-◌, ◌<◌}
+use lib.ListN.{length, get_or}
 use Rattle.reader.proofs.all_bytes.Given as goal
 
 abbrev pub Below : List ℕ → ℕ → Type 0

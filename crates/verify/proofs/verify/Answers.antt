@@ -1,6 +1,5 @@
 -- `verify::verify`: the length, the form, then the functions. Assumes nothing.
 use native.Mathlib.Omega.{arith}
-use borrow.Author.Rules.{rules}
 use Rattle.sheet.specs.Forms.{form_of}
 use Rattle.verify.proofs.Whole.{too_long, malformed, functions_there, accepted, refused}
 use Rattle.verify.proofs.verify.Goals as goal

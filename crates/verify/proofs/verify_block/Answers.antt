@@ -1,17 +1,14 @@
 -- `verify::verify_block`: what is left of the block from q on decides. Assumes nothing.
 use mathlib.Core.Path.{refl}
-use Prim.Native.Nat.{ℕ, ◌+◌, ◌-◌}
+use Prim.Native.Nat.{ℕ, ◌+◌}
 use native.Mathlib.Omega.{arith}
-use borrow.Author.Rules.{rules}
 use Rattle.definitions.specs.Fields.{le}
 use Rattle.definitions.specs.Verify.{verify_block}
 use Rattle.definitions.proofs.Sheets.Steps.{low}
 use Rattle.program_nodes.specs.Offsets.{block_id_at}
-use Rattle.program_nodes.specs.Positions.{stop_here, BlockFrom}
+use Rattle.program_nodes.specs.Positions.{stop_here}
 use Rattle.program_nodes.proofs.Walk.{InstrStep, TermStep, record_fits, instr_here_lem, term_here_lem, instr_to, term_place}
-use Rattle.verify.specs.Promises.{block_check}
-use Rattle.verify_state.proofs.Steps.{Leads}
-use Rattle.verify.proofs.Seconds.{block_left, instr_failed, instr_passed, terminator_says, missing}
+use Rattle.verify.proofs.Seconds.{instr_failed, instr_passed, terminator_says, missing}
 use Rattle.verify.proofs.verify_block.Goals as goal
 use Rattle.verify.proofs.verify_block.Goals.{Else-kind-gt-LAST_INSTRUCTION, Start, Then-kind-gt-LAST_INSTRUCTION}
 

@@ -1,5 +1,4 @@
 -- `verify::verify_function`: the two passes, one after the other. Assumes nothing.
-use borrow.Author.Rules.{rules}
 use Rattle.verify.proofs.Seconds.{params_failed, blocks_failed, function_says}
 use Rattle.verify.proofs.verify_function.Goals as goal
 

@@ -1,7 +1,5 @@
 -- `verify::verify_instr`: the parts that an instruction of each kind refers to, kind by kind. Assumes nothing.
-use mathlib.Core.Path.{◌≡◌}
 use native.Mathlib.Omega.{arith}
-use borrow.Author.Rules.{rules}
 use Rattle.definitions.specs.ProgramSheet.{binary_of}
 use Rattle.verify.proofs.Instrs.{Fixed, fixed_fields, binary_place, Here, by_kind, const, binary, load, store, store_bad, state_write_lem, read_local_lem, write_local_lem, write_local_bad, call, call_bad, assert, poseidon, emit, quiet}
 use Rattle.verify.proofs.verify_instr.Goals as goal

@@ -1,11 +1,9 @@
 -- `verify::verify_program`: what is left of the functions decides. Assumes nothing.
-use mathlib.Core.Path.{◌≡◌, refl, ap, sym, ◌∙◌}
-use Prim.Native.Nat.{ℕ, ◌+◌, ◌-◌}
+use mathlib.Core.Path.{◌≡◌, refl, ◌∙◌}
 use native.Mathlib.Omega.{arith}
-use borrow.Author.Rules.{rules}
 use lib.ListN.{length}
 use Rattle.definitions.specs.Verify.{verify_functions}
-use Rattle.program_nodes.specs.Positions.{functions_here, functions_of, ids_of_all, FunctionsFrom, FunctionHere}
+use Rattle.program_nodes.specs.Positions.{functions_here, functions_of, ids_of_all}
 use Rattle.program_nodes.proofs.Functions.{head_there, no_functions}
 use Rattle.verify.proofs.Seconds.{function_failed, function_passed, functions_over}
 use Rattle.verify.proofs.verify_program.Goals as goal

@@ -1,14 +1,10 @@
 -- `verify_define::define_blocks`: what is left of the blocks from b on, with the table so far. Assumes nothing.
 use Prim.Native.Nat.{◌-◌}
-use native.Mathlib.Omega.{arith}
-use borrow.Author.Rules.{rules}
 use Rattle.definitions.specs.Records.{read_records}
 use Rattle.definitions.specs.Verify.{define_blocks}
-use Rattle.definitions.proofs.Sheets.Steps.{low}
-use Rattle.program_nodes.specs.Positions.{stop_here, blocks_here, BlocksFrom}
+use Rattle.program_nodes.specs.Positions.{blocks_here, BlocksFrom}
 use Rattle.program_nodes.specs.Definitions.{blocks_definitions}
-use Rattle.program_nodes.proofs.Walk.{BlockStep, block_here_lem}
-use Rattle.verify_define.proofs.Firsts.{Rest, all_left, no_blocks_left, block_failed, block_passed}
+use Rattle.verify_define.proofs.Firsts.{Rest}
 use Rattle.verify_define.proofs.define_blocks.Given as goal
 
 abbrev pub invariant-loop-b : goal.invariant-loop-b

@@ -1,14 +1,9 @@
 -- `verify_define::define_params`: what is left of the parameters, with the table so far. Assumes nothing.
 use mathlib.Core.Path.{sym, ◌∙◌}
-use Prim.Native.Nat.{◌+◌, ◌*◌, ◌≤◌}
 use native.Mathlib.Omega.{arith}
-use borrow.Author.Rules.{rules}
 use borrow.Author.Tests.{eqb-true, eqb-false}
-use Rattle.definitions.specs.Verify.{define_params}
 use Rattle.program_nodes.specs.Positions.{params_here}
-use Rattle.program_nodes.specs.Definitions.{param_definitions, params_of}
-use Rattle.program_nodes.proofs.Definitions.{params_from}
-use Rattle.verify_define.proofs.Firsts.{Rest, all_left, param_twice, param_once, params_over}
+use Rattle.verify_define.proofs.Firsts.{all_left, param_twice, param_once, params_over}
 use Rattle.verify_define.proofs.define_params.Goals as goal
 
 pub overflow_add-f : goal.overflow_add-f

@@ -1,7 +1,6 @@
 -- `verify_lookup::defined_type`: nothing was found, a parameter, or an instruction. Assumes nothing.
-use mathlib.Core.Path.{◌≡◌, refl, ap, sym, ◌∙◌}
+use mathlib.Core.Path.{ap, sym, ◌∙◌}
 use native.Mathlib.Omega.{arith}
-use borrow.Author.Rules.{rules}
 use Rattle.program_nodes.specs.Positions.{raw_opt}
 use Rattle.program_nodes.proofs.Walk.{head_fits}
 use Rattle.program_nodes.proofs.Definitions.{not_found, a_param, an_instr}

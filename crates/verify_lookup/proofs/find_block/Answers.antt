@@ -1,10 +1,8 @@
 -- `verify_lookup::find_block`: the search goes on from the block at p. Assumes nothing.
-use mathlib.Core.Path.{◌≡◌, refl, sym, ◌∙◌}
-use Prim.Native.Nat.{ℕ, ◌+◌, ◌-◌, ◌<◌}
+use mathlib.Core.Path.{refl, sym, ◌∙◌}
 use native.Mathlib.Omega.{arith}
-use Rattle.definitions.specs.Ir.{find}
 use Rattle.definitions.proofs.Sheets.Steps.{low}
-use Rattle.program_nodes.specs.Positions.{stop_here, blocks_here, BlocksFrom}
+use Rattle.program_nodes.specs.Positions.{stop_here}
 use Rattle.program_nodes.proofs.Walk.{BlockStep, block_here_lem}
 use Rattle.verify_lookup.proofs.Blocks.{found_here, found_later, not_found}
 use Rattle.verify_lookup.proofs.find_block.Goals as goal

@@ -1,11 +1,10 @@
 -- `verify_lookup::find_function`: the search goes on from the function at p. Assumes nothing.
-use mathlib.Core.Path.{◌≡◌, refl, sym, ◌∙◌}
-use Prim.Native.Nat.{ℕ, ◌+◌, ◌-◌, ◌≤◌, ◌<◌}
+use mathlib.Core.Path.{refl, sym, ◌∙◌}
+use Prim.Native.Nat.{◌+◌, ◌≤◌}
 use native.Mathlib.Omega.{arith}
 use lib.ListN.{length}
-use Rattle.definitions.specs.Bench.{function_with}
 use Rattle.definitions.proofs.Sheets.Steps.{low}
-use Rattle.program_nodes.specs.Positions.{stop_here, functions_here, functions_of, FunctionsFrom, FunctionStarts}
+use Rattle.program_nodes.specs.Positions.{stop_here, FunctionStarts}
 use Rattle.program_nodes.proofs.Functions.{FunctionStep, head_there, function_here_lem, no_functions}
 use Rattle.verify_lookup.proofs.Functions.{found_here, found_later, not_found}
 use Rattle.verify_lookup.proofs.find_function.Goals as goal

@@ -1,13 +1,9 @@
 -- `verify_lookup::find_function`: the search goes on from the function at p. Assumes nothing.
-use mathlib.Core.Path.{◌≡◌, refl, sym, ◌∙◌}
-use Prim.Native.Nat.{ℕ, ◌+◌, ◌-◌, ◌≤◌, ◌<◌}
-use native.Mathlib.Omega.{arith}
+use mathlib.Core.Path.{◌≡◌}
+use Prim.Native.Nat.{◌-◌, ◌<◌}
 use lib.ListN.{length}
 use Rattle.definitions.specs.Bench.{function_with}
-use Rattle.definitions.proofs.Sheets.Steps.{low}
-use Rattle.program_nodes.specs.Positions.{stop_here, functions_here, functions_of, FunctionsFrom, FunctionStarts}
-use Rattle.program_nodes.proofs.Functions.{FunctionStep, head_there, function_here_lem, no_functions}
-use Rattle.verify_lookup.proofs.Functions.{found_here, found_later, not_found}
+use Rattle.program_nodes.specs.Positions.{functions_here, functions_of, FunctionsFrom}
 use Rattle.verify_lookup.proofs.find_function.Given as goal
 
 abbrev pub invariant-loop-p : goal.invariant-loop-p

@@ -1,11 +1,8 @@
 -- `verify_lookup::find_param`: what is left of the parameters is searched from p on. Assumes nothing.
-use mathlib.Core.Path.{◌≡◌, refl, ap, sym, ◌∙◌}
-use Prim.Native.Nat.{ℕ, ◌+◌, ◌*◌, ◌≤◌}
+use mathlib.Core.Path.{refl, ap, sym, ◌∙◌}
 use native.Mathlib.Omega.{arith}
-use borrow.Author.Rules.{rules}
-use lib.ListN.{length}
-use Rattle.program_nodes.specs.Definitions.{param_definitions, first_place}
-use Rattle.program_nodes.proofs.Definitions.{params_from, param_hit, param_miss, param_none, params_read}
+use Rattle.program_nodes.specs.Definitions.{first_place}
+use Rattle.program_nodes.proofs.Definitions.{param_hit, param_miss, param_none, params_read}
 use Rattle.verify_lookup.proofs.find_param.Goals as goal
 
 pub overflow_add-f : goal.overflow_add-f

@@ -1,11 +1,9 @@
 -- `verify_lookup::find_param`: what is left of the parameters is searched from p on. Assumes nothing.
-use mathlib.Core.Path.{◌≡◌, refl, ap, sym, ◌∙◌}
-use Prim.Native.Nat.{ℕ, ◌+◌, ◌*◌, ◌≤◌}
-use native.Mathlib.Omega.{arith}
-use borrow.Author.Rules.{rules}
+use mathlib.Core.Path.{◌≡◌}
+use Prim.Native.Nat.{◌+◌, ◌*◌, ◌≤◌}
 use lib.ListN.{length}
 use Rattle.program_nodes.specs.Definitions.{param_definitions, first_place}
-use Rattle.program_nodes.proofs.Definitions.{params_from, param_hit, param_miss, param_none, params_read}
+use Rattle.program_nodes.proofs.Definitions.{params_from}
 use Rattle.verify_lookup.proofs.find_param.Given as goal
 
 abbrev pub invariant-loop-left : goal.invariant-loop-left

@@ -1,13 +1,13 @@
 -- `verify_lookup::first_definition`: the parameters, then the search goes on from the block at b. Assumes nothing.
 use mathlib.Core.Path.{◌≡◌, ap, sym, ◌∙◌}
-use Prim.Native.Nat.{ℕ, ◌+◌, ◌-◌, ◌<◌}
+use Prim.Native.Nat.{◌+◌}
 use native.Mathlib.Omega.{arith}
 use borrow.Author.Rules.{rules}
 use Rattle.definitions.specs.Records.{read_records}
 use Rattle.definitions.proofs.Sheets.Steps.{low}
 use Rattle.program_nodes.specs.Offsets.{records_at}
-use Rattle.program_nodes.specs.Positions.{stop_here, BlocksFrom}
-use Rattle.program_nodes.specs.Definitions.{block_definitions, blocks_definitions, params_of, definitions_of, first_definition, first_place}
+use Rattle.program_nodes.specs.Positions.{stop_here}
+use Rattle.program_nodes.specs.Definitions.{block_definitions, params_of, definitions_of, first_definition, first_place}
 use Rattle.program_nodes.proofs.Walk.{BlockStep, block_here_lem}
 use Rattle.program_nodes.proofs.Definitions.{place_next, place_first, blocks_definitions_lem, no_blocks, params_above, block_above, absent_place}
 use Rattle.verify_lookup.proofs.first_definition.Goals as goal

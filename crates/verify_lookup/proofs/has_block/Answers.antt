@@ -1,5 +1,4 @@
 -- `verify_lookup::has_block`: whether one is found. Assumes nothing.
-use borrow.Author.Rules.{rules}
 use Rattle.verify_lookup.proofs.Blocks.{id_lacks, id_there}
 use Rattle.verify_lookup.proofs.has_block.Goals as goal
 

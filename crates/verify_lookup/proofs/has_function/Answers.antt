@@ -1,5 +1,4 @@
 -- `verify_lookup::has_function`: whether one is found. Assumes nothing.
-use borrow.Author.Rules.{rules}
 use Rattle.verify_lookup.proofs.Functions.{id_lacks, id_there}
 use Rattle.verify_lookup.proofs.has_function.Goals as goal
 

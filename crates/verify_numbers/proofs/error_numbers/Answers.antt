@@ -1,6 +1,5 @@
 -- `verify_numbers::error_numbers`: by the error's case. Assumes nothing.
 use Rattle.verify_numbers.proofs.Told.{of_error, parts, same_types, same_type}
-use borrow.Author.Rules.{rules}
 use Rattle.verify_numbers.proofs.error_numbers.Goals as goal
 
 pub returns-in-UndefinedValue : goal.returns-in-UndefinedValue

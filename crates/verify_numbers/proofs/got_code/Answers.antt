@@ -1,5 +1,4 @@
 -- `verify_numbers::got_code`: the code of a type, or that of none. Assumes nothing.
-use borrow.Author.Rules.{rules}
 use Rattle.verify_numbers.proofs.Told.{parts}
 use Rattle.verify_numbers.proofs.got_code.Goals as goal
 

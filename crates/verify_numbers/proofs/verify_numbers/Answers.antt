@@ -1,6 +1,5 @@
 -- `verify_numbers::verify_numbers`: by the answer's case. Assumes nothing.
 use Rattle.verify_numbers.proofs.Told.{of_answer}
-use borrow.Author.Rules.{rules}
 use Rattle.verify_numbers.proofs.verify_numbers.Goals as goal
 
 pub returns-in-Accepted : goal.returns-in-Accepted

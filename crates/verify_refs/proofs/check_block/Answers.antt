@@ -1,7 +1,6 @@
 -- `verify_refs::check_block`: as the search says. Assumes nothing.
 use mathlib.Core.List.{List}
 use Prim.Native.Nat.{ℕ}
-use borrow.Author.Rules.{rules}
 use Rattle.definitions.specs.Verify.{VerifyError, block_ids}
 use Rattle.program_nodes.specs.Positions.{ir_of}
 use Rattle.verify_refs.proofs.Ids.{id_there, id_missing}

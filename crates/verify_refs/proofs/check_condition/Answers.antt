@@ -1,6 +1,5 @@
 -- `verify_refs::check_condition`: the value is not defined, or no Bool, or both. Assumes nothing.
 use native.Mathlib.Omega.{arith}
-use borrow.Author.Rules.{rules}
 use Rattle.verify_refs.proofs.Operands.{condition_undefined, condition_bad, condition_good}
 use Rattle.verify_refs.proofs.check_condition.Goals as goal
 

@@ -1,5 +1,4 @@
 -- `verify_refs::check_function`: as the search says. Assumes nothing.
-use borrow.Author.Rules.{rules}
 use Rattle.definitions.specs.Verify.{VerifyError}
 use Rattle.program_nodes.specs.Positions.{ids_of_all}
 use Rattle.verify_refs.proofs.Ids.{id_there, id_missing}

@@ -1,5 +1,4 @@
 -- `verify_refs::check_local`: a local is there exactly if it is below the count. Assumes nothing.
-use borrow.Author.Rules.{rules}
 use borrow.Author.Tests.{lt-ltb, le-ltb}
 use Rattle.verify_refs.proofs.check_local.Goals as goal
 

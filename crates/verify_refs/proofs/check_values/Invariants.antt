@@ -1,13 +1,9 @@
 -- `verify_refs::check_values`: what is left of the ids decides for all of them. Assumes nothing.
-use mathlib.Core.Path.{refl}
 use Prim.Native.Nat.{◌+◌, ◌*◌, ◌≤◌}
-use native.Mathlib.Omega.{arith}
-use borrow.Author.Rules.{rules}
 use lib.ListN.{length}
 use Rattle.definitions.specs.Verify.{check_value_refs}
 use Rattle.program_nodes.specs.Positions.{ids_here}
 use Rattle.verify_state.proofs.Steps.{Leads}
-use Rattle.verify_refs.proofs.Values.{value_undefined, value_defined, values_failed, values_passed, values_over}
 use Rattle.verify_refs.proofs.check_values.Given as goal
 
 abbrev pub invariant-loop-left : goal.invariant-loop-left

@@ -1,5 +1,4 @@
 -- `verify_refs::operand_mismatch`: both types by their numbers. Assumes nothing.
-use borrow.Author.Rules.{rules}
 use mathlib.Core.Path.{ap₂}
 use Rattle.definitions.specs.Ir.{IrType}
 use Rattle.definitions.specs.Result.{err}

@@ -1,5 +1,4 @@
 -- `verify_refs::return_mismatch`: both types by their numbers. Assumes nothing.
-use borrow.Author.Rules.{rules}
 use mathlib.Core.Path.{ap₂}
 use mathlib.Core.Option.{some}
 use Rattle.definitions.specs.Ir.{IrType}

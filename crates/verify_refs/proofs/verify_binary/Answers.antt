@@ -1,6 +1,5 @@
 -- `verify_refs::verify_binary`: an operand is not defined, or has another type, or both are right. Assumes nothing.
 use native.Mathlib.Omega.{arith}
-use borrow.Author.Rules.{rules}
 use Rattle.verify_refs.proofs.Operands.{binary_left, binary_right, binary_good, binary_bad}
 use Rattle.verify_refs.proofs.verify_binary.Goals as goal
 

@@ -2,7 +2,6 @@
 use mathlib.Core.List.{List}
 use Prim.Native.Nat.{ℕ, ◌+◌}
 use native.Mathlib.Omega.{arith}
-use borrow.Author.Rules.{rules}
 use Rattle.definitions.specs.Result.{◌>>◌, Done}
 use Rattle.definitions.specs.Fields.{le}
 use Rattle.definitions.specs.Verify.{Checked, Defined}

@@ -1,6 +1,5 @@
 -- `verify_refs::verify_return`: nothing is returned, or a value that is not defined, or has another type, or is right. Assumes nothing.
 use native.Mathlib.Omega.{arith}
-use borrow.Author.Rules.{rules}
 use Rattle.verify_refs.proofs.Operands.{return_nothing, return_missing, return_undefined, return_good, return_bad}
 use Rattle.verify_refs.proofs.verify_return.Goals as goal
 

@@ -1,10 +1,9 @@
 -- `writer::clear`: what is left of the run is stored from `to` on. Assumes nothing.
 use mathlib.Core.Path.{◌≡◌, refl, sym, ◌∙◌}
-use Prim.Native.Nat.{◌-◌, ◌≤◌}
+use Prim.Native.Nat.{◌-◌}
 use native.Mathlib.Omega.{arith}
 use borrow.Author.Rules.{rules}
-use lib.ListN.{length, length-set, replicate}
-use lib.Seq.{sets}
+use lib.ListN.{length, length-set}
 use Rattle.writer.proofs.Writing.{zeros_front}
 use Rattle.writer.proofs.clear.Goals as goal
 

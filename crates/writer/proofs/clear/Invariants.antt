@@ -1,11 +1,8 @@
 -- `writer::clear`: what is left of the run is stored from `to` on. Assumes nothing.
-use mathlib.Core.Path.{◌≡◌, refl, sym, ◌∙◌}
+use mathlib.Core.Path.{◌≡◌}
 use Prim.Native.Nat.{◌-◌, ◌≤◌}
-use native.Mathlib.Omega.{arith}
-use borrow.Author.Rules.{rules}
-use lib.ListN.{length, length-set, replicate}
+use lib.ListN.{length, replicate}
 use lib.Seq.{sets}
-use Rattle.writer.proofs.Writing.{zeros_front}
 use Rattle.writer.proofs.clear.Given as goal
 
 abbrev pub invariant-loop-to : goal.invariant-loop-to

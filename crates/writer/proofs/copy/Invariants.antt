@@ -1,12 +1,8 @@
 -- `writer::copy`: what is left of the run is stored from `to + i` on. Assumes nothing.
-use mathlib.Core.Path.{◌≡◌, refl, sym, ◌∙◌}
+use mathlib.Core.Path.{◌≡◌}
 use Prim.Native.Nat.{◌+◌, ◌-◌, ◌≤◌}
-use native.Mathlib.Omega.{arith}
-use borrow.Author.Rules.{rules}
-use native.Mathlib.Nat.{add-zero, sub-zero}
-use lib.ListN.{length, length-set, take, drop}
+use lib.ListN.{length, take, drop}
 use lib.Seq.{sets}
-use Rattle.writer.proofs.Writing.{copy_front}
 use Rattle.writer.proofs.copy.Given as goal
 
 abbrev pub invariant-loop-i : goal.invariant-loop-i

@@ -1,10 +1,8 @@
 -- `writer::write`: what is left of the run is stored from `to` on. Assumes nothing.
 use mathlib.Core.Path.{◌≡◌, refl, sym, ◌∙◌}
-use Prim.Native.Nat.{◌+◌, ◌≤◌}
 use native.Mathlib.Omega.{arith}
 use borrow.Author.Rules.{rules}
-use lib.ListN.{length, length-set}
-use lib.Seq.{sets}
+use lib.ListN.{length-set}
 use Rattle.definitions.specs.Fields.{bytes}
 use Rattle.writer.proofs.Writing.{bytes_front}
 use Rattle.writer.proofs.write.Goals as goal

@@ -1,12 +1,9 @@
 -- `writer::write`: what is left of the run is stored from `to` on. Assumes nothing.
-use mathlib.Core.Path.{◌≡◌, refl, sym, ◌∙◌}
+use mathlib.Core.Path.{◌≡◌}
 use Prim.Native.Nat.{◌+◌, ◌≤◌}
-use native.Mathlib.Omega.{arith}
-use borrow.Author.Rules.{rules}
-use lib.ListN.{length, length-set}
+use lib.ListN.{length}
 use lib.Seq.{sets}
 use Rattle.definitions.specs.Fields.{bytes}
-use Rattle.writer.proofs.Writing.{bytes_front}
 use Rattle.writer.proofs.write.Given as goal
 
 abbrev pub invariant-loop-left : goal.invariant-loop-left

@@ -1,6 +1,5 @@
 -- `plain::analyze_assign`: the name is known, and its expression fits it. Assumes nothing.
 use native.Mathlib.Omega.{arith}
-use borrow.Author.Rules.{rules}
 use Rattle.contract_nodes.proofs.Children.{bounds}
 use Rattle.contract_nodes.proofs.Stmts.{assign_at}
 use Rattle.analyze_simple.proofs.PlainSteps.{assign_done, assign_unknown}

@@ -1,5 +1,4 @@
 -- `plain::analyze_constrain`: its expression has a type. Assumes nothing.
-use borrow.Author.Rules.{rules}
 use Rattle.contract_nodes.proofs.Children.{bounds}
 use Rattle.contract_nodes.proofs.Stmts.{constrain_at}
 use Rattle.analyze_simple.proofs.PlainSteps.{constrain_done}

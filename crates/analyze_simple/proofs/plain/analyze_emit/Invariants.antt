@@ -1,15 +1,11 @@
 -- `plain::analyze_emit`: its arguments have types, one by one. Assumes nothing.
 use Prim.Native.Nat.{◌-◌}
-use native.Mathlib.Omega.{arith}
-use borrow.Author.Rules.{rules}
 use Rattle.definitions.specs.ContractSheet.{read_contract}
 use Rattle.ir.specs.Types.{as_type}
 use Rattle.contract_nodes.specs.Ready.{stmt_at}
-use Rattle.contract_nodes.proofs.Children.{bounds, size_fits, more}
-use Rattle.contract_nodes.proofs.Stmts.{emit_at}
 use Rattle.analyze_env.specs.Known.{env_of}
 use Rattle.analyze_walk.specs.Stops.{check_stmt}
-use Rattle.analyze_simple.proofs.PlainSteps.{Going, emit_opens, emit_none, emit_refused, emit_next}
+use Rattle.analyze_simple.proofs.PlainSteps.{Going}
 use Rattle.analyze_simple.proofs.plain.analyze_emit.Given as goal
 
 abbrev pub invariant-loop-arg : goal.invariant-loop-arg

@@ -1,7 +1,6 @@
 -- `plain::analyze_mapping_write`: its key has a type, then its value. Assumes nothing.
 use mathlib.Core.Path.{sym, subst}
 use Prim.Native.Nat.{ℕ, ◌-◌}
-use borrow.Author.Rules.{rules}
 use Rattle.definitions.specs.Grammar.{Class}
 use Rattle.contract_nodes.specs.Ready.{Ready}
 use Rattle.contract_nodes.proofs.Children.{bounds, size_fits}

@@ -1,7 +1,6 @@
 -- `plain::analyze_return`: with no value, or with an expression's. Assumes nothing.
 use mathlib.Core.Path.{refl}
 use native.Mathlib.Omega.{arith}
-use borrow.Author.Rules.{rules}
 use Rattle.contract_nodes.proofs.Children.{bounds}
 use Rattle.contract_nodes.proofs.Stmts.{return_at}
 use Rattle.analyze_simple.proofs.PlainSteps.{return_none_lem, return_some_lem}

@@ -1,6 +1,5 @@
 -- `plain::assign_fits`: the types differ, or they do not, or there is none. Assumes nothing.
 use mathlib.Core.Path.{sym, ap, ◌∙◌}
-use borrow.Author.Rules.{rules}
 use Rattle.analyze_walk.specs.Stops.{sema}
 use Rattle.analyze_env.specs.Known.{as_ty}
 use Rattle.analyze_exprs.specs.Typed.{typed_of}

@@ -1,6 +1,5 @@
 -- `plain::return_fits`: the types differ, or they do not, or there is none. Assumes nothing.
 use mathlib.Core.Path.{sym, ap, ◌∙◌}
-use borrow.Author.Rules.{rules}
 use Rattle.definitions.specs.Analyze.{known}
 use Rattle.ir.specs.Types.{as_type}
 use Rattle.analyze_walk.specs.Stops.{sema}

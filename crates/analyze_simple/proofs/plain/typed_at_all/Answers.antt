@@ -1,6 +1,5 @@
 -- `plain::typed_at_all`: a type, or an error. Assumes nothing.
 use mathlib.Core.Path.{sym, ap}
-use borrow.Author.Rules.{rules}
 use Rattle.analyze_exprs.specs.Typed.{typed_of}
 use Rattle.analyze_exprs.specs.declared.Typed.{Typed}
 use Rattle.analyze_simple.specs.Checked.{drop_type}

@@ -3,7 +3,6 @@ use mathlib.Core.Path.{◌≡◌}
 use Prim.Native.Nat.{ℕ, ◌+◌, ◌<◌}
 use native.Mathlib.Omega.{arith}
 use lib.ListN.{length}
-use borrow.Author.Rules.{rules}
 use Rattle.lower_flow.proofs.LocalMade.{no_local, one_local, local_grown}
 use Rattle.lower_flow.proofs.make.init_local.Goals as goal
 

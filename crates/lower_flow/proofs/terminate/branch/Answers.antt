@@ -1,5 +1,4 @@
 -- `terminate::branch`: the record is appended, and the block is closed behind it. Assumes nothing.
-use borrow.Author.Rules.{rules}
 use Rattle.lower_flow.proofs.FlowSteps.{same_grown}
 use Rattle.lower_flow.proofs.Terminated.{terminated}
 use Rattle.lower_flow.proofs.terminate.branch.Goals as goal

@@ -1,7 +1,6 @@
 -- `terminate::close`: the block stops where the log ends. Assumes nothing.
 use mathlib.Core.Path.{refl}
 use native.Mathlib.Nat.{le_refl}
-use borrow.Author.Rules.{rules}
 use Rattle.lower_flow.proofs.TableStores.{stop_locals, stop_starts, stop_stops}
 use Rattle.lower_flow.proofs.terminate.close.Goals as goal
 

@@ -1,7 +1,6 @@
 -- `terminate::next_arm`: by whether the block is closed. Assumes nothing.
 use mathlib.Core.Path.{ap, sym, ◌∙◌}
 use native.Mathlib.Omega.{arith}
-use borrow.Author.Rules.{rules}
 use Rattle.definitions.specs.Ir.{Terminator}
 use Rattle.lower_walk.specs.Stmts.{switch_to, next_arm}
 use Rattle.lower_state.specs.State.{ctx_in}

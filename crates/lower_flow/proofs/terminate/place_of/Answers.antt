@@ -1,7 +1,6 @@
 -- `terminate::place_of`: by whether the place is over the room. Assumes nothing.
 use mathlib.Core.Path.{refl}
 use native.Mathlib.Omega.{arith}
-use borrow.Author.Rules.{rules}
 use borrow.Author.Tests.{lt-leb, le-leb}
 use Rattle.lower_walk.specs.Log.{room}
 use Rattle.lower_flow.proofs.terminate.place_of.Goals as goal

@@ -1,7 +1,6 @@
 -- `terminate::return_if_open`: by whether the block is closed. Assumes nothing.
 use mathlib.Core.Path.{sym, ◌∙◌}
 use mathlib.Core.Option.{none}
-use borrow.Author.Rules.{rules}
 use Rattle.definitions.specs.Ir.{Terminator}
 use Rattle.lower_state.specs.State.{ctx_in}
 use Rattle.lower_flow.proofs.FlowSteps.{grown_still}

@@ -3,7 +3,6 @@ use mathlib.Core.Path.{refl}
 use Prim.Native.Nat.{◌<◌}
 use native.Mathlib.Nat.{le_refl}
 use native.Mathlib.Omega.{arith}
-use borrow.Author.Rules.{rules}
 use Rattle.lower_walk.specs.Stmts.{switch_to}
 use Rattle.lower_flow.proofs.TableStores.{start_locals, start_starts, start_stops}
 use Rattle.lower_flow.proofs.terminate.switch_to.Goals as goal

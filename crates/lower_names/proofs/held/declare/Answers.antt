@@ -1,7 +1,6 @@
 -- `lower_names::held::declare`: the store is above what was held. Assumes nothing.
 use mathlib.Core.Path.{refl}
 use native.Mathlib.Omega.{arith}
-use borrow.Author.Rules.{rules}
 use Rattle.lower_names.proofs.Packed.{declared}
 use Rattle.lower_names.proofs.held.declare.Goals as goal
 

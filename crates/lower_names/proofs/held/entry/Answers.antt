@@ -2,7 +2,6 @@
 use mathlib.Core.Path.{◌≡◌}
 use Prim.Native.Nat.{◌/◌, ◌%◌}
 use native.Mathlib.Omega.{arith}
-use borrow.Author.Rules.{rules}
 use Rattle.definitions.specs.Ir.{tag_of, name_of}
 use Rattle.ir.specs.Types.{as_type}
 use Rattle.ir.proofs.Codes.{tag_low}

@@ -1,12 +1,9 @@
 -- `lower_names::held::find`: what is left below i gives what all entries give. Assumes nothing.
-use mathlib.Core.Path.{◌≡◌, refl, ◌∙◌}
-use Prim.Native.Nat.{◌-◌, ◌≤◌}
-use native.Mathlib.Omega.{arith}
-use borrow.Author.Rules.{rules}
+use mathlib.Core.Path.{◌≡◌}
+use Prim.Native.Nat.{◌≤◌}
 use Rattle.definitions.specs.Lower.{in_scope}
 use Rattle.lower_walk.specs.Held.{names}
 use Rattle.lower_names.specs.HeldNames.{held_in}
-use Rattle.lower_names.proofs.Packed.{hit, miss, none_left}
 use Rattle.lower_names.proofs.held.find.Given as goal
 
 abbrev pub invariant-loop-i : goal.invariant-loop-i

@@ -2,7 +2,6 @@
 use Prim.Native.Nat.{◌<◌}
 use native.Mathlib.Omega.{arith}
 use lib.ListN.{length}
-use borrow.Author.Rules.{rules}
 use Rattle.lower_names.proofs.Packed.{declared}
 use Rattle.lower_names.proofs.held.hold.Goals as goal
 

@@ -4,7 +4,6 @@ use Prim.Native.Nat.{◌/◌, ◌%◌}
 use mathlib.Core.Option.{some}
 use Rattle.definitions.specs.Ir as defs
 use Rattle.lower_names.specs.HeldNames.{held_of}
-use borrow.Author.Rules.{rules}
 use Rattle.lower_names.proofs.held.lookup_of.Goals as goal
 
 pub returns : goal.returns

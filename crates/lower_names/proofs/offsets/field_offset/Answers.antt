@@ -4,7 +4,6 @@ use Rattle.definitions.specs.ContractSheet.{read_contract}
 use Rattle.ir.specs.declared.IrType.{IrType}
 use Rattle.ir.specs.Types.{as_type}
 use Rattle.lower_names.specs.Answers.{field_offset}
-use borrow.Author.Rules.{rules}
 use Rattle.lower_names.proofs.offsets.field_offset.Goals as goal
 
 pub returns-in-Struct : goal.returns-in-Struct

@@ -6,7 +6,6 @@ use Rattle.contract_lookup.specs.Answers.{StandsAt, position_of}
 use Rattle.contract_lookup.proofs.Firsts.{position_low}
 use Rattle.contract_lookup.proofs.Symbolic.{struct_is}
 use Rattle.lower_names.proofs.Symbolic.{offset_here, no_offset}
-use borrow.Author.Rules.{rules}
 use Rattle.lower_names.proofs.offsets.offset_in.Goals as goal
 
 pub field_position-requires : goal.field_position-requires

@@ -1,6 +1,5 @@
 -- `calls::call_valued`: one instruction. Assumes nothing.
 use mathlib.Core.Path.{ap}
-use borrow.Author.Rules.{rules}
 use Rattle.definitions.specs.Result.{ok}
 use Rattle.lower_walk.specs.Exprs.{Walked}
 use Rattle.lower_values.proofs.Answered.{pushes}

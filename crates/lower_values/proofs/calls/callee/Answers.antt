@@ -1,6 +1,5 @@
 -- `calls::callee`: by the name, in the order of the code. Assumes nothing.
 use mathlib.Core.Path.{sym, ◌∙◌}
-use borrow.Author.Rules.{rules}
 use borrow.Author.Tests.{ne_eqb}
 use Rattle.definitions.specs.Names.{poseidon, verify_merkle_proof, msg_sender, msg_nonce, block_number}
 use Rattle.lower_values.specs.Calls.{resolve_fn}

@@ -1,6 +1,5 @@
 -- `calls::user_callee`: by the signature. Assumes nothing.
 use mathlib.Core.Path.{ap, sym, ◌∙◌}
-use borrow.Author.Rules.{rules}
 use Rattle.contract_lookup.specs.Answers.{signature_of}
 use Rattle.lower_values.specs.Calls.{resolve_user}
 use Rattle.lower_values.proofs.calls.user_callee.Goals as goal

@@ -1,6 +1,5 @@
 -- `leaves::lower_binary`: by what the right operand came to. Assumes nothing.
 use mathlib.Core.Path.{ap, sym}
-use borrow.Author.Rules.{rules}
 use Rattle.lower_values.specs.Values.{valued_in, binary_on}
 use Rattle.lower_values.proofs.Answered.{pushes, after_value, binary_of_lem}
 use Rattle.lower_values.proofs.leaves.lower_binary.Goals as goal

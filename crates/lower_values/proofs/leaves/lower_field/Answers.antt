@@ -1,6 +1,5 @@
 -- `leaves::lower_field`: by what the expression came to. Assumes nothing.
 use mathlib.Core.Path.{ap, sym, ◌∙◌}
-use borrow.Author.Rules.{rules}
 use Rattle.lower_values.specs.Values.{valued_in, field_on}
 use Rattle.lower_values.proofs.Answered.{after_value}
 use Rattle.lower_values.proofs.leaves.lower_field.Goals as goal

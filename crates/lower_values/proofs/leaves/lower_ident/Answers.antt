@@ -1,6 +1,5 @@
 -- `leaves::lower_ident`: by what is held. Assumes nothing.
 use mathlib.Core.Path.{ap, sym, ◌∙◌}
-use borrow.Author.Rules.{rules}
 use Rattle.lower_names.specs.Answers.{lookup_of}
 use Rattle.lower_values.proofs.Answered.{pushes, held, not_held}
 use Rattle.lower_values.proofs.leaves.lower_ident.Goals as goal

@@ -1,6 +1,5 @@
 -- `leaves::lower_storage_read`: by the slot. Assumes nothing.
 use mathlib.Core.Path.{ap, sym, ◌∙◌}
-use borrow.Author.Rules.{rules}
 use Rattle.contract_lookup.specs.Answers.{slot_of}
 use Rattle.lower_values.proofs.Answered.{pushes, at_slot, by_slot}
 use Rattle.lower_values.proofs.leaves.lower_storage_read.Goals as goal

@@ -1,6 +1,5 @@
 -- `leaves::read_field`: by the offset. Assumes nothing.
 use mathlib.Core.Path.{ap, sym, ◌∙◌}
-use borrow.Author.Rules.{rules}
 use Rattle.lower_names.specs.Answers.{offset_of}
 use Rattle.lower_values.proofs.Answered.{pushes, at_offset, by_offset}
 use Rattle.lower_values.proofs.leaves.read_field.Goals as goal

@@ -1,0 +1,14 @@
+-- `lower`: the answer, the output with its zeros, and demand 3. Assumes nothing.
+use mathlib.Core.Path.{◌∙◌}
+use Rattle.lower.proofs.Answering.{zeros_behind, written_in, demanded}
+use Rattle.lower.proofs.lower.Goals as goal
+
+pub clear-requires : goal.clear-requires
+clear-requires c = rw c.written.ensures (written_in _ _ _ _ c.lower_sheet-answer.ensures)
+
+pub returns : goal.returns
+returns c =
+    let answered = c.lower_sheet-answer.ensures in
+    let left = zeros_behind _ _ _ _ answered in
+    let cleared = rw c.written.ensures at c.clear.ensures in
+    record { result_value = left.answered; out_after = cleared ∙ left.output; by_index = λ n e. rw cleared (demanded _ c.all_bytes.ensures _ _ _ answered n e) }
