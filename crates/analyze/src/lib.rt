@@ -41,7 +41,7 @@ pub enum Answer {
 // The n parameters at a place are known, in order.
 fn insert_params(s: &[u8], at: usize, n: usize, entries: &mut [u64], heads: &mut [u16])
     requires known { Known entries.old heads.old 0 × ((n ≤ 16) × (16 ≤ length entries.old)) }
-    requires n_in_bounds { (at + 4 * n ≤ length s.now) × (length s.now ≤ 32768) }
+    requires params_fit { (at + 4 * n ≤ length s.now) × (length s.now ≤ 32768) }
     ensures { ParamsKnown s.now at n entries.old entries.new heads.new }
 {
     let mut i = 0;

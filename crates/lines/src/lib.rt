@@ -18,8 +18,8 @@ pub const LOWERED_LINE: usize = 3 * MOST + 3;
 // Puts the line of the first `count` of the list into `out`, with zeros behind it, and gives its length. It is `OK` if there are none.
 pub fn line(count: usize, list: [usize; 6], out: &mut [u8; LINE]) -> usize
     ensures out_after { out.new ≡ padded 128 (line_of (take count list)) }
-    ensures value { result ≡ length (line_of (take count list)) }
-    ensures upper_bound { (result ≤ length out.new) × (result ≡ length (take result out.new)) }
+    ensures len { result ≡ length (line_of (take count list)) }
+    ensures prefix { (result ≤ length out.new) × (result ≡ length (take result out.new)) }
 {
     put_line(count, list, out)
 }
@@ -27,8 +27,8 @@ pub fn line(count: usize, list: [usize; 6], out: &mut [u8; LINE]) -> usize
 // Puts the line of the verifier's answer to a program sheet into `out`, with zeros behind it, and gives its length.
 pub fn verify_line(sheet: &[u8], out: &mut [u8; LINE]) -> usize
     ensures out_after { out.new ≡ padded 128 (line_of (numbers_of (verify_sheet sheet.now))) }
-    ensures value { result ≡ length (line_of (numbers_of (verify_sheet sheet.now))) }
-    ensures upper_bound { (result ≤ length out.new) × (result ≡ length (take result out.new)) }
+    ensures len { result ≡ length (line_of (numbers_of (verify_sheet sheet.now))) }
+    ensures prefix { (result ≤ length out.new) × (result ≡ length (take result out.new)) }
 {
     let n = verify_numbers::verify_numbers(verify::verify(sheet));
     let list = n.list;
@@ -38,8 +38,8 @@ pub fn verify_line(sheet: &[u8], out: &mut [u8; LINE]) -> usize
 // The same of what lowering asks of a contract sheet before the walk.
 pub fn contract_line(sheet: &[u8], out: &mut [u8; LINE]) -> usize
     ensures out_after { out.new ≡ padded 128 (line_of (numbers_of (check_contract sheet.now))) }
-    ensures value { result ≡ length (line_of (numbers_of (check_contract sheet.now))) }
-    ensures upper_bound { (result ≤ length out.new) × (result ≡ length (take result out.new)) }
+    ensures len { result ≡ length (line_of (numbers_of (check_contract sheet.now))) }
+    ensures prefix { (result ≤ length out.new) × (result ≡ length (take result out.new)) }
 {
     let n = lower_numbers::check_numbers(sheet::check_contract(sheet));
     let list = n.list;
@@ -49,8 +49,8 @@ pub fn contract_line(sheet: &[u8], out: &mut [u8; LINE]) -> usize
 // The same of the body check of a contract sheet.
 pub fn analyze_line(sheet: &[u8], out: &mut [u8; LINE]) -> usize
     ensures out_after { out.new ≡ padded 128 (line_of (numbers_of (analyze_sheet sheet.now))) }
-    ensures value { result ≡ length (line_of (numbers_of (analyze_sheet sheet.now))) }
-    ensures upper_bound { (result ≤ length out.new) × (result ≡ length (take result out.new)) }
+    ensures len { result ≡ length (line_of (numbers_of (analyze_sheet sheet.now))) }
+    ensures prefix { (result ≤ length out.new) × (result ≡ length (take result out.new)) }
 {
     let n = analyze_numbers::analyze_numbers(analyze::analyze(sheet));
     let list = n.list;
@@ -60,8 +60,8 @@ pub fn analyze_line(sheet: &[u8], out: &mut [u8; LINE]) -> usize
 // Lowers a contract sheet to `out` and puts the line of the answer into `text`, with zeros behind it. Gives the line's length.
 pub fn lower_line(sheet: &[u8], out: &mut [u8; MOST], text: &mut [u8; LOWERED_LINE]) -> usize
     ensures text_after { text.new ≡ padded 98307 (lowered_line (lower_sheet sheet.now 32768)) }
-    ensures value { result ≡ length (lowered_line (lower_sheet sheet.now 32768)) }
-    ensures upper_bound { (result ≤ length text.new) × (result ≡ length (take result text.new)) }
+    ensures len { result ≡ length (lowered_line (lower_sheet sheet.now 32768)) }
+    ensures prefix { (result ≤ length text.new) × (result ≡ length (take result text.new)) }
     ensures out_after { out.new ≡ output_of (lower_sheet sheet.now 32768) 32768 }
 {
     let answer = lower::lower(sheet, out);

@@ -146,9 +146,9 @@ fn written(answer: Answer) -> usize
 
 // Lowers a contract sheet: on acceptance the output holds the program sheet and then zeros, on any refusal zeros.
 pub fn lower(sheet: &[u8], out: &mut [u8]) -> Answer
-    ensures result_value { answer_of result ≡ length_of (lower_sheet sheet.now (length out.old)) }
+    ensures answered { answer_of result ≡ length_of (lower_sheet sheet.now (length out.old)) }
     ensures out_after { out.new ≡ output_of (lower_sheet sheet.now (length out.old)) (length out.old) }
-    ensures by_index { (n : ℕ) → result ≡ answer.Accepted n → Demand3Of sheet.now (take n out.new) }
+    ensures demand3 { (n : ℕ) → result ≡ answer.Accepted n → Demand3Of sheet.now (take n out.new) }
 {
     all_bytes(sheet);
     let answer = lower_sheet(sheet, out);

@@ -83,7 +83,7 @@ fn lay_block(
 // The first n blocks.
 fn lay_blocks(n: u16, tables: &[u32], log: &[u8], out: &mut [u8], to: usize) -> usize
     requires tables_len { (length tables.now ≡ 768) × ((n ≤ 256) × BlocksWithin (starts_of tables.now) (stops_of tables.now) n (length log.now)) }
-    requires n_in_bounds { to + length (blocks_part log.now tables.now n) ≤ length out.old }
+    requires room { to + length (blocks_part log.now tables.now n) ≤ length out.old }
     ensures { Put (blocks_part log.now tables.now n) out.old to out.new result }
 {
     let mut at = to;

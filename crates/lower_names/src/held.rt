@@ -121,8 +121,8 @@ pub fn hold(entries: &mut Entries, top: Top, name: Name, local: LocalId, ty: IrT
 // The same, for a scope of its own.
 pub fn declare(scopes: Scopes, name: Name, local: LocalId, ty: IrType) -> Scopes
     requires { (scopes.count < 256) × (scopes.scope < 8192) }
-    ensures count_value { (result.count ≡ scopes.count + 1) × (result.scope ≡ scopes.scope) }
-    ensures count_value_2 { held_in result.entries result.count ≡ held_name scopes.scope name.0 local.0 (as_type ty) ∷ held_in scopes.entries scopes.count }
+    ensures counted { (result.count ≡ scopes.count + 1) × (result.scope ≡ scopes.scope) }
+    ensures entries_after { held_in result.entries result.count ≡ held_name scopes.scope name.0 local.0 (as_type ty) ∷ held_in scopes.entries scopes.count }
 {
     let mut more = scopes;
     let i = scopes.count;

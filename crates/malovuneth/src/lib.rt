@@ -14,8 +14,8 @@ ghost use Rattle.definitions.specs.Demand3.{Demand3Of};
 pub extern "C" fn malovuneth_lower(sheet: &[u8], out: &mut [u8], numbers: &mut [usize; 6]) -> usize
     ensures numbers_after { numbers.new ≡ padded 6 (lowered_numbers (lower_sheet sheet.now (length out.old))) }
     ensures out_after { out.new ≡ output_of (lower_sheet sheet.now (length out.old)) (length out.old) }
-    ensures demand3of { get_or numbers.new 0 0 ≡ 0 → Demand3Of sheet.now (take (get_or numbers.new 1 0) out.new) }
-    ensures value { result ≡ get_or numbers.new 0 0 }
+    ensures demand3 { get_or numbers.new 0 0 ≡ 0 → Demand3Of sheet.now (take (get_or numbers.new 1 0) out.new) }
+    ensures number { result ≡ get_or numbers.new 0 0 }
 {
     let answer = lower::lower(sheet, out);
     let n = lower_numbers::lower_numbers(answer);
@@ -36,7 +36,7 @@ pub extern "C" fn malovuneth_version() -> usize
 #[unsafe(no_mangle)]
 pub extern "C" fn malovuneth_verify(sheet: &[u8], out: &mut [usize; 6]) -> usize
     ensures out_after { out.new ≡ padded 6 (numbers_of (verify_sheet sheet.now)) }
-    ensures value { result ≡ get_or out.new 0 0 }
+    ensures number { result ≡ get_or out.new 0 0 }
 {
     let n = verify_numbers::verify_numbers(verify::verify(sheet));
     let list = n.list;
@@ -48,7 +48,7 @@ pub extern "C" fn malovuneth_verify(sheet: &[u8], out: &mut [usize; 6]) -> usize
 #[unsafe(no_mangle)]
 pub extern "C" fn malovuneth_contract_check(sheet: &[u8], out: &mut [usize; 6]) -> usize
     ensures out_after { out.new ≡ padded 6 (numbers_of (check_contract sheet.now)) }
-    ensures value { result ≡ get_or out.new 0 0 }
+    ensures number { result ≡ get_or out.new 0 0 }
 {
     let n = lower_numbers::check_numbers(sheet::check_contract(sheet));
     let list = n.list;
@@ -60,7 +60,7 @@ pub extern "C" fn malovuneth_contract_check(sheet: &[u8], out: &mut [usize; 6]) 
 #[unsafe(no_mangle)]
 pub extern "C" fn malovuneth_contract_form(sheet: &[u8], out: &mut [usize; 6]) -> usize
     ensures out_after { out.new ≡ padded 6 (numbers_of (refuse_form 3 (refusal3 sheet.now))) }
-    ensures value { result ≡ get_or out.new 0 0 }
+    ensures number { result ≡ get_or out.new 0 0 }
 {
     match sheet::contract_form(sheet) {
         sheet::Form::Good => {

@@ -28,7 +28,7 @@ insert_params-requires c =
     let F = function_at_lem c.requires.contract_passed.1 in
     let E = c.requires.empty.0 in
     let e = c.read-n.ensures.0 in
-    record { known = (E.known, (omega (arith, F.few), omega (arith, E.holds))); n_in_bounds = (omega (arith, F.fits, F.inside), c.requires.contract_passed.0.short) }
+    record { known = (E.known, (omega (arith, F.few), omega (arith, E.holds))); params_fit = (omega (arith, F.fits, F.inside), c.requires.contract_passed.0.short) }
 
 pub read_u16-requires : goal.read_u16-requires
 read_u16-requires c = let F = (started (goal.at.read_u16-requires c).After-insert_params).function in omega (arith, F.fits, F.inside)

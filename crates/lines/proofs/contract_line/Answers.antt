@@ -8,5 +8,5 @@ pub returns : goal.returns
 returns c =
     let n = c.check_numbers-n in
     let e = c.line.ensures in
-    let w = written _ _ (told n.result.count n.result.list _ n.ensures ∙ ap numbers_of c.check_contract.ensures) (e.out_after, (e.value, e.upper_bound)) in
-    record { out_after = w.0; value = w.1.0; upper_bound = w.1.1 }
+    let w = written _ _ (told n.result.count n.result.list _ n.ensures ∙ ap numbers_of c.check_contract.ensures) (e.out_after, (e.len, e.prefix)) in
+    record { out_after = w.0; len = w.1.0; prefix = w.1.1 }

@@ -8,4 +8,4 @@ pub returns : goal.returns
 returns c =
     let size : length c.args.out.now ≡ 128 = search rules in
     let l = rw size at c.put_line.ensures in
-    record { out_after = l.is; value = l.size; upper_bound = l.inside }
+    record { out_after = l.is; len = l.size; prefix = l.inside }

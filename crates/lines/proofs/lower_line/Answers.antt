@@ -19,7 +19,7 @@ accepted_line-requires c =
     let n = c.in-Accepted.n in
     let room : length a.out.now ≡ 32768 = search rules in
     let size : length a.text.now ≡ 98307 = search rules in
-    let low : n ≤ 32768 = accepted_fits a.sheet.now (length a.out.now) n (sym (ap answer_of c.in-Accepted.is) ∙ l.ensures.result_value) in
+    let low : n ≤ 32768 = accepted_fits a.sheet.now (length a.out.now) n (sym (ap answer_of c.in-Accepted.is) ∙ l.ensures.answered) in
     let long : length l.new.out ≡ 32768 = search rules in
     (omega arith, omega arith)
 
@@ -28,12 +28,12 @@ returns-in-Accepted c =
     let a = c.args in
     let l = c.lower-answer in
     let n = c.in-Accepted.n in
-    let is : ok n ≡ length_of (lower_sheet a.sheet.now (length a.out.now)) = sym (ap answer_of c.in-Accepted.is) ∙ l.ensures.result_value in
+    let is : ok n ≡ length_of (lower_sheet a.sheet.now (length a.out.now)) = sym (ap answer_of c.in-Accepted.is) ∙ l.ensures.answered in
     let room : length a.out.now ≡ 32768 = search rules in
     let size : length a.text.now ≡ 98307 = search rules in
     let low : n ≤ 32768 = accepted_fits a.sheet.now (length a.out.now) n is in
     let w = wrote 98307 32768 (length a.text.now) (length a.out.now) a.sheet.now l.new.out c.accepted_line.new.text (lowered_line (ok (take n l.new.out))) c.accepted_line.result size room (accepted_line_is (lower_sheet a.sheet.now (length a.out.now)) l.new.out (length a.out.now) n (omega arith) is l.ensures.out_after) l.ensures.out_after c.accepted_line.ensures in
-    record { text_after = w.0; value = w.1.0; upper_bound = w.1.1.0; out_after = w.1.1.1 }
+    record { text_after = w.0; len = w.1.0; prefix = w.1.1.0; out_after = w.1.1.1 }
 
 pub returns : goal.returns
 returns c =
@@ -43,5 +43,5 @@ returns c =
     let room : length a.out.now ≡ 32768 = search rules in
     let size : length a.text.now ≡ 98307 = search rules in
     let numbers : take n.result.count n.result.list ≡ length_numbers (answer_of l.result) = told n.result.count n.result.list _ n.ensures in
-    let w = wrote 98307 32768 (length a.text.now) (length a.out.now) a.sheet.now l.new.out c.put_line.new.out (line_of (take n.result.count n.result.list)) c.put_line.result size room (ap line_of numbers ∙ refused_line_is (lower_sheet a.sheet.now (length a.out.now)) l.result c.in_default.not-Accepted l.ensures.result_value) l.ensures.out_after c.put_line.ensures in
-    record { text_after = w.0; value = w.1.0; upper_bound = w.1.1.0; out_after = w.1.1.1 }
+    let w = wrote 98307 32768 (length a.text.now) (length a.out.now) a.sheet.now l.new.out c.put_line.new.out (line_of (take n.result.count n.result.list)) c.put_line.result size room (ap line_of numbers ∙ refused_line_is (lower_sheet a.sheet.now (length a.out.now)) l.result c.in_default.not-Accepted l.ensures.answered) l.ensures.out_after c.put_line.ensures in
+    record { text_after = w.0; len = w.1.0; prefix = w.1.1.0; out_after = w.1.1.1 }

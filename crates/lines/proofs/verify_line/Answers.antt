@@ -9,5 +9,5 @@ returns c =
     let n = c.verify_numbers-n in
     let same = told n.result.count n.result.list _ n.ensures ∙ ap numbers_of c.verify.ensures in
     let e = c.line.ensures in
-    let w = written _ _ same (e.out_after, (e.value, e.upper_bound)) in
-    record { out_after = w.0; value = w.1.0; upper_bound = w.1.1 }
+    let w = written _ _ same (e.out_after, (e.len, e.prefix)) in
+    record { out_after = w.0; len = w.1.0; prefix = w.1.1 }

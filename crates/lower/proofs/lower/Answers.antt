@@ -11,4 +11,4 @@ returns c =
     let answered = c.lower_sheet-answer.ensures in
     let left = zeros_behind _ _ _ _ answered in
     let cleared = rw c.written.ensures at c.clear.ensures in
-    record { result_value = left.answered; out_after = cleared ∙ left.output; by_index = λ n e. rw cleared (demanded _ c.all_bytes.ensures _ _ _ answered n e) }
+    record { answered = left.answered; out_after = cleared ∙ left.output; demand3 = λ n e. rw cleared (demanded _ c.all_bytes.ensures _ _ _ answered n e) }

@@ -17,7 +17,7 @@ lay_block-at-requires c =
     let m = marked a.tables.now l.k c.requires.tables_len.1.1 c.loop-k-test.true c.requires.tables_len.1.0 c.start_of.ensures c.stop_of.ensures in
     let x = starts_of a.tables.now in
     let y = stops_of a.tables.now in
-    let r = run_room (block_at a.log.now x y) l.k a.n l.invariant.1 c.loop-k-test.true (rw (blocks_run a.log.now x y 0 a.n) at c.requires.n_in_bounds) in
+    let r = run_room (block_at a.log.now x y) l.k a.n l.invariant.1 c.loop-k-test.true (rw (blocks_run a.log.now x y 0 a.n) at c.requires.room) in
     (m.2, (m.3, omega (arith, r, m.0, m.1, block_length a.log.now l.k (get_or x l.k 0) (get_or y l.k 0) (omega (arith, m.1, m.3)))))
 
 pub loop-k-preserved : goal.loop-k-preserved

@@ -24,7 +24,7 @@ pub lay_blocks-requires : goal.lay_blocks-requires
 lay_blocks-requires c =
     let K = c.requires in
     let r = blocks_room c.args.function.0 K _ c.lay_head-place.ensures (omega arith) in
-    record { tables_len = (K.tables_long, (K.sound.blocks, λ k l. let w = K.within k l in (w.0, omega arith))); n_in_bounds = r }
+    record { tables_len = (K.tables_long, (K.sound.blocks, λ k l. let w = K.within k l in (w.0, omega arith))); room = r }
 
 pub returns : goal.returns
 returns c =

@@ -42,16 +42,16 @@ lower_for-lower_stmts-body-requires t c =
     let p = for_in c.requires.ready c.read-2.ensures.0 c.read-3.ensures.0 c.read.ensures.0 in
     let l = bounds_told c.args.ctx c.in-Made.is c.for_locals-bounds.ensures.grown in
     let o = blocks_told c.in-Made.next c.in-Made-made.is c.for_blocks-made.ensures.grown in
-    asked_list c.args.top c.decreases c.requires.ready c.requires.sound c.declare-scopes.result p.deep p.body (c.declare-scopes.ensures.count_value.1 ∙ c.inside.ensures.1.1) o.0.sound
-    (omega (arith, c.declare-scopes.ensures.count_value.0, c.inside.ensures.1.0, c.requires.sound.1.0, l.1, o.0.locals))
+    asked_list c.args.top c.decreases c.requires.ready c.requires.sound c.declare-scopes.result p.deep p.body (c.declare-scopes.ensures.counted.1 ∙ c.inside.ensures.1.1) o.0.sound
+    (omega (arith, c.declare-scopes.ensures.counted.0, c.inside.ensures.1.0, c.requires.sound.1.0, l.1, o.0.locals))
 
 pub lower_for-returns-in-Next : goal.lower_for-returns-in-Next
 lower_for-returns-in-Next t c =
-    for_leaves c.requires.ready c.read-2.ensures.0 c.read-3.ensures.0 c.read.ensures.0 c.for_locals-bounds.ensures c.in-Made.is c.for_blocks-made.ensures c.in-Made-made.is c.inside.result c.declare-scopes.result c.inside.ensures c.name_at.ensures c.declare-scopes.ensures.count_value.1 c.declare-scopes.ensures.count_value_2 c.lower_stmts-body.ensures c.in-Next.is c.leave_for.ensures
+    for_leaves c.requires.ready c.read-2.ensures.0 c.read-3.ensures.0 c.read.ensures.0 c.for_locals-bounds.ensures c.in-Made.is c.for_blocks-made.ensures c.in-Made-made.is c.inside.result c.declare-scopes.result c.inside.ensures c.name_at.ensures c.declare-scopes.ensures.counted.1 c.declare-scopes.ensures.entries_after c.lower_stmts-body.ensures c.in-Next.is c.leave_for.ensures
 
 pub lower_for-returns-in-Refused-body : goal.lower_for-returns-in-Refused-body
 lower_for-returns-in-Refused-body t c =
-    for_body_refused c.requires.ready c.read-2.ensures.0 c.read-3.ensures.0 c.read.ensures.0 c.for_locals-bounds.ensures c.in-Made.is c.for_blocks-made.ensures c.in-Made-made.is c.inside.result c.declare-scopes.result c.inside.ensures c.name_at.ensures c.declare-scopes.ensures.count_value.1 c.declare-scopes.ensures.count_value_2 c.lower_stmts-body.ensures c.in-Refused-body.is
+    for_body_refused c.requires.ready c.read-2.ensures.0 c.read-3.ensures.0 c.read.ensures.0 c.for_locals-bounds.ensures c.in-Made.is c.for_blocks-made.ensures c.in-Made-made.is c.inside.result c.declare-scopes.result c.inside.ensures c.name_at.ensures c.declare-scopes.ensures.counted.1 c.declare-scopes.ensures.entries_after c.lower_stmts-body.ensures c.in-Refused-body.is
 
 pub lower_for-returns-in-Refused-made : goal.lower_for-returns-in-Refused-made
 lower_for-returns-in-Refused-made t c =

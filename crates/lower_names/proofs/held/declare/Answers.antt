@@ -7,4 +7,4 @@ use Rattle.lower_names.proofs.held.declare.Goals as goal
 pub returns : goal.returns
 returns c =
     let a = c.args.scopes in
-    record { count_value = (refl, refl); count_value_2 = rw (← c.entry.ensures) (declared a.entries a.count c.entry.result (omega arith)) }
+    record { counted = (refl, refl); entries_after = rw (← c.entry.ensures) (declared a.entries a.count c.entry.result (omega arith)) }
