@@ -19,6 +19,7 @@ says() {
 
 says 2 '' 'usage: malovuneth *' ./malovuneth
 says 2 '' 'usage: malovuneth *' ./malovuneth there-is-none
+says 2 '' 'usage: malovuneth *' ./malovuneth archive examples/pay.sheet
 says 2 '' 'usage: malovuneth *' ./malovuneth lower examples/pay.sheet examples/pay.sheet
 says 2 '' 'malovuneth: examples/there-is-none.sheet *' ./malovuneth lower examples/there-is-none.sheet
 says 2 '' 'malovuneth: examples *' ./malovuneth lower examples
