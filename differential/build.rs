@@ -1,5 +1,5 @@
 //! Links the proved static library, from the folder `ARCHIVE` or where
-//! `rt staticlib malovuneth` writes it.
+//! `./malovuneth archive` writes it.
 
 use std::env;
 use std::path::Path;

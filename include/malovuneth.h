@@ -2,7 +2,7 @@
  * program sheets. C99, or C++. Version 0.3.0.
  *
  * Link with libmalovuneth.a, an archive for x86-64 Linux that
- * `rt staticlib malovuneth` writes to target/staticlib. Of other libraries it
+ * `./malovuneth archive` writes to target/staticlib. Of other libraries it
  * needs memcpy and memset alone. It has further functions, for tests; they are
  * no part of this interface.
  *

@@ -5,7 +5,7 @@ set -u
 cd "$(dirname "$0")/.." && . tests/part.sh || exit 2
 kit=(io libc os bytes check)
 
-# cited CRATE: the names that it cites, a line each: in code NAME::.., unless NAME is a module of its own; in code and in antt Rattle·NAME. Comments cite nothing.
+# cited CRATE: the names that it cites, a line each: in code NAME::.., unless NAME is a module of its own or of std; in code and in antt Rattle.NAME.. Comments cite nothing.
 cited() {
   find "crates/$1/src" "crates/$1/specs" "crates/$1/proofs" \( -name '*.rt' -o -name '*.antt' \) -exec awk '
     function cite(form, before, after,    rest, name) {
@@ -19,8 +19,9 @@ cited() {
     { code = FILENAME ~ /[.]rt$/ }
     code { sub("//.*", "") }
     !code { sub("(^| )--( .*)?$", "") }
-    { cite("Rattle·[a-z0-9_]+[.]", "^Rattle·", "[.]$") }
+    { cite("[^A-Za-z0-9_.]Rattle[.][a-z0-9_]+[.]", "^[^A-Za-z0-9_.]Rattle[.]", "[.]$") }
     code { cite("[^A-Za-z0-9_:][a-z][a-z0-9_]*::", "^[^A-Za-z0-9_:]", "::$") }
+    code && /^use std::/ { for (rest = substr($0, 10); match(rest, "[a-z][a-z0-9_]*"); rest = substr(rest, RSTART + RLENGTH)) own[substr(rest, RSTART, RLENGTH)] }
     code && /^ *(pub )?mod / { sub("^ *(pub )?mod ", ""); sub("[^a-z0-9_].*", ""); own[$0] }
     END { for (name in names) if (!(name in own)) print name }' {} + 2>/dev/null
 }
@@ -45,16 +46,37 @@ held() {
         if ((from, list[i]) in declared) visit(from, list[i])
       }
     }
-    { split(FILENAME, path, "/"); at = path[2]; sub("//.*", "") }
-    match($0, "^use [a-z0-9_]+(::[a-z0-9_]+)*::[A-Z][A-Za-z0-9]*;") {
-      name = $2
-      from = name
+    # import PATH: a name that is brought in: a type, a function or a module
+    function import(path,    name, from) {
+      name = from = path
       sub("::.*", "", from)
       sub(".*::", "", name)
-      sub(";", "", name)
       if (from == "crate") from = at
-      imports[at, name] = from
-      if (at == crate) { wanted[from, name] }
+      if (name ~ "^[A-Z]") { imports[at, name] = from; if (at == crate) wanted[from, name] }
+      else if (at == crate && from != name) calls[from, name]
+    }
+    # expand BEFORE TEXT: imports each path of a text as `a::b`, or `a::{b, c::{d, e}}`
+    function expand(before, text,    i, c, depth, item) {
+      if (text !~ "{") { import(before text); return }
+      before = before substr(text, 1, index(text, "{") - 1)
+      text = substr(text, index(text, "{") + 1)
+      sub("}$", ",", text)
+      for (i = 1; i <= length(text); i++) {
+        c = substr(text, i, 1)
+        if (c == "," && !depth) { if (item != "") expand(before, item); item = ""; continue }
+        depth += (c == "{") - (c == "}")
+        item = item c
+      }
+    }
+    { split(FILENAME, path, "/"); at = path[2]; sub("//.*", "") }
+    FNR == 1 { using = "" }
+    using == "" && /^(pub )?use / { sub("^(pub )?use ", ""); using = " " }
+    using != "" {
+      using = using $0
+      if (using !~ ";") next
+      gsub("[ ;]", "", using)
+      expand("", using)
+      using = ""
       next
     }
     match($0, "^(pub )?(struct|enum) [A-Z][A-Za-z0-9]*") {
@@ -97,11 +119,11 @@ held() {
     }' {} + 2>/dev/null
 }
 
-# line CRATE: its line of crates.txt as it should be, the crates in the order in which they are listed there.
+# line CRATE KIND: its line of crates.txt as it should be, the crates in the order in which they are listed there. KIND is ' staticlib' or nothing.
 line() {
   local cites name
   cites=" $({ cited "$1"; held "$1"; } | tr '\n' ' ') "
-  printf '%s:' "$1"
+  printf '%s:' "$1$2"
   for name in "${crates[@]}" "${kit[@]}"; do
     case $name in "$1") continue ;; esac
     case $cites in *" $name "*) printf ' %s' "$name" ;; esac
@@ -109,10 +131,14 @@ line() {
   printf '\n'
 }
 
-mapfile -t crates < <(sed -nE 's/^([a-z0-9_]+):.*/\1/p' crates.txt)
+mapfile -t crates < <(sed -nE 's/^([a-z0-9_]+)( staticlib)?:.*/\1/p' crates.txt)
 while IFS= read -r given; do
   case $given in
-  [a-z]*:*) right=$(line "${given%%:*}") ;;
+  [a-z]*:*)
+    crate=${given%%:*} kind=
+    [ "$crate" = "${crate% staticlib}" ] || crate=${crate% staticlib} kind=' staticlib'
+    right=$(line "$crate" "$kind")
+    ;;
   *) right=$given ;;
   esac
   if [ "${1:-}" = --print ]; then printf '%s\n' "$right"

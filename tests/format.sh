@@ -28,14 +28,14 @@ def table(*columns):
     return rows
 
 FORMS = {form: (number(size), valid) for form, size, valid, _ in table("form", "bytes", "valid", "what it is")}
-PAIRS = {"name, name": "nameAndType", "value, type": "valueAndType"}
+PAIRS = {"name, name": "name_and_type", "value, type": "value_and_type"}
 def entry(form):
     """What Grammar has for a form."""
     size, valid = FORMS[form]
-    if form == "type": return "irType"
+    if form == "type": return "ir_type"
     if valid == "any": return f"number {size}"
     if valid == "0 to 65,534, or 65,535: none": return "optional"
-    return f"upTo {number(valid.removeprefix('0 to '))}"
+    return f"up_to {number(valid.removeprefix('0 to '))}"
 def parts(form):
     """single, counted or list; and the forms of an entry."""
     many = re.fullmatch(r"(counted|list) \((.*)\)", form)
@@ -60,7 +60,7 @@ def grammar():
     short = dict(re.findall(r"^abbrev (\w+) : Field\n\w+ = (.*)$", text, re.M))
     rows = re.sub(r"^ +instr (\d+) (.*) ∷", r" kind \1 Class.instruction \2 done ∷", text, flags=re.M)
     rows = re.sub(r"^ +term (\d+) (.*?) ∷(| \[\])(?=  --)", r" kind \1 Class.terminator \2 done ∷\3", rows, flags=re.M)
-    same("the bytes between an instruction's kind and its own fields", 0, int(re.search(r"^originWidth = (\d+)$", text, re.M)[1]))
+    same("the bytes between an instruction's kind and its own fields", 0, int(re.search(r"^origin_width = (\d+)$", text, re.M)[1]))
     for line in re.findall(r"^ +kind (\d.*)$", rows, re.M):
         line, _, name = line.partition("  -- ")
         kind, sort, fields, children = re.fullmatch(r"(\d+) Class\.(\w+) (?:\[\]|\((.*?) ∷ \[\]\)) (.*?) ∷(?: \[\])?", line).groups()
@@ -68,8 +68,8 @@ def grammar():
         yield int(kind), sort, fields, [c + {"one": "", "perhaps": "?", "many": "*"}[how] for how, c in re.findall(r"(one|perhaps|many) Class\.(\w+)", children)], name
 
 def records():
-    sizes = dict(re.findall(r"^sizeOf \(?(\w+)(?: \w+)?\)? = (\d+)$", spec("Records"), re.M))
-    rule = re.search(r"^okType t n = (.*)$", spec("Records"), re.M)[1]
+    sizes = dict(re.findall(r"^size_of \(?(\w+)(?: \w+)?\)? = (\d+)$", spec("Records"), re.M))
+    rule = re.search(r"^ok_type t n = (.*)$", spec("Records"), re.M)[1]
     tag, most, tags, none = (re.search(test + r" (\d+)", rule)[1] for test in ("eqb t", "leb n", "leb t", "eqb n"))
     same("the form type", FORMS["type"][1], f"tag 0 to {tags}; name 0 to {int(most):,} if the tag is {tag}, and otherwise {none}")
     for form in FORMS: same(f"bytes of the form {form}", FORMS[form][0], int(sizes.get(entry(form).split()[0], FORMS[form][0])))
@@ -83,7 +83,7 @@ def records():
         if name: same(f"name of kind {kind}", said[0], name)
 
 # INSTRUCTIONS
-RULES = {"own": "own", "own unless Void": "ownUnlessVoid", "Bool": "bool", "U64": "u64", "none": "nothing"}
+RULES = {"own": "own", "own unless Void": "own_unless_void", "Bool": "bool", "U64": "u64", "none": "nothing"}
 def members(name, text):
     """Which arguments of an instruction stand in a list: `operands (Instruction.Store b o v) = b ∷ v ∷ []` has 0 and 2 for Store."""
     found = {}
@@ -96,13 +96,13 @@ def instructions():
     right = {int(k): rest for k, *rest in re.findall(r"row (\d+) ResultRule\.(\w+) Effect\.(\w+) Reads\.(\w+) ∷.*-- (\w+)", text)}
     said = {int(k): (name, result, effect) for k, name, result, effect, _ in table("kind", "name", "result", "effect", "what it does")}
     same("the kinds of instructions", sorted(said), sorted(right))
-    constructors = {int(k): c for c, k in re.findall(r"^kindOf \(Instruction\.(\w+) .*\) = (\d+)$", text, re.M)}
-    values, ir = members("valuesOf", spec("ProgramSheet")), spec("Ir")
-    operands, reads, writes = (members(name, ir) for name in ("operands", "localRead", "localWritten"))
+    constructors = {int(k): c for c, k in re.findall(r"^kind_of \(Instruction\.(\w+) .*\) = (\d+)$", text, re.M)}
+    values, ir = members("values_of", spec("ProgramSheet")), spec("Ir")
+    operands, reads, writes = (members(name, ir) for name in ("operands", "local_read", "local_written"))
     for kind, (result, effect, count, name) in right.items():
         same(f"instruction {kind}", (said[kind][0], RULES.get(said[kind][1]), said[kind][2]), (name, result, effect))
         forms = [form for _, form in KINDS[kind][2][1:]]
-        given = "valueList" if "list (value)" in forms else ("noValue", "oneValue", "twoValues")[forms.count("value")]
+        given = "value_list" if "list (value)" in forms else ("no_value", "one_value", "two_values")[forms.count("value")]
         same(f"how many values {kind} reads", given, count)
         constructor = constructors.get(kind, "Binary")
         at = lambda *sort: [values[constructor][i] for i, form in enumerate(forms) if form in sort]
@@ -120,7 +120,7 @@ def numbers():
     same("the numbers", [row[0] for row in said], [row[0] for row in right])
     for one, other in zip(said, right): same(f"number {one[0]}", one, other)
     details = {value: len(re.sub(r"\(.*?\)|, from 0|^-$", "", words).split(", ")) + words.count("(two numbers") - (words == "-") for value, _, words in said}
-    for value, given in re.findall(r"^(?:lower|verify)Refusal .* = refusal (\d+) (.*)$", spec("Answers"), re.M):
+    for value, given in re.findall(r"^(?:lower|verify)_refusal .* = refusal (\d+) (.*)$", spec("Answers"), re.M):
         same(f"how many details {value} has", details.get(value), given.count("∷"))
     types = [[tag, name] for name, tag in re.findall(r"MALOVUNETH_(TYPE_\w+) = (\d+)", text)]
     same("the types", [[tag, constant] for tag, _, constant in table("tag", "type", "constant of the header")], types)
@@ -131,16 +131,16 @@ def names():
     same("the reserved names", [tuple(row[:2]) for row in table("name", "string", "what lowering takes it for")], [(n, text) for _, n, text in right])
     by_name = {word: n for word, n, _ in right}
     lower = spec("Lower")
-    contexts = [(context, by_name[word]) for word, context in re.findall(r"\((\w+), contextFn (\d)\)", lower)]
+    contexts = [(context, by_name[word]) for word, context in re.findall(r"\((\w+), context_fn (\d)\)", lower)]
     same("the contexts", [(context, n) for context, _, n in table("context", "name", "by a Call of")], contexts)
     def reading(name, text):
         found = re.search(rf"^{name} n =(.*?)\(IrType\.Struct n\)$", text, re.M | re.S)[1]
         return {by_name[word]: re.sub("T$", "", ty) for word, ty in re.findall(r"\((\w+), IrType\.(\w+)\)", found)}
-    own, call = reading("parseIrType", lower), reading("fromStr", spec("Sema"))
+    own, call = reading("parse_ir_type", lower), reading("from_str", spec("Sema"))
     for n, parameter, called in table("type name", "parameter, own return", "call"):
         if n.isdigit(): same(f"the type named {n}", (parameter, called), (own.get(n, f"Struct {n}"), call.get(n, f"Struct {n}")))
-    operators = dict(re.findall(r"^opNumber BinOp\.(\w+) = (\d)$", spec("ContractSheet"), re.M))
-    kinds = dict(re.findall(r"^binaryKind BinOp\.(\w+) = (\d+)$", spec("InstrTable"), re.M))
+    operators = dict(re.findall(r"^op_number BinOp\.(\w+) = (\d)$", spec("ContractSheet"), re.M))
+    kinds = dict(re.findall(r"^binary_kind BinOp\.(\w+) = (\d+)$", spec("InstrTable"), re.M))
     right = [[operators[op], op, KINDS[int(kinds[op])][0], kinds[op]] for op in operators]
     same("the operators", [[o, op, i, k] for o, op, _, i, k in table("operator", "name", "sign", "instruction", "kind")], right)
 
@@ -216,8 +216,8 @@ def examples():
 
 AROUND = {
     "contract": lambda r: r, "storage": contract, "struct": contract, "function": contract, "statement": body,
-    "block": lambda r: body(record(15, one, r)), "expression": lambda r: body(record(20, r)), "fieldInit": lambda r: body(record(20, record(35, u16(12), r))),
-    "program": lambda r: r, "irFunction": lambda r: record(50, r), "functionName": lambda r: record(50, r), "basicBlock": code,
+    "block": lambda r: body(record(15, one, r)), "expression": lambda r: body(record(20, r)), "field_init": lambda r: body(record(20, record(35, u16(12), r))),
+    "program": lambda r: r, "ir_function": lambda r: record(50, r), "function_name": lambda r: record(50, r), "basic_block": code,
     "instruction": lambda r: code(record(53, u16(0), r)), "terminator": lambda r: code(record(53, u16(0), r)),
 }
 def whole(sheet, at):
@@ -266,8 +266,8 @@ SHEETS = {
 }
 def limits():
     lower = spec("Lower")
-    same("blocks of a function", LIMITS["blocks of a function"], int(re.search(r"ltb \(c \.nextBlock\) (\d+)", lower)[1]))
-    same("locals of a function", LIMITS["locals of a function"], int(re.search(r"ltb \(length \(c \.locals\)\) (\d+)", lower)[1]))
+    same("blocks of a function", LIMITS["blocks of a function"], int(re.search(r"ltb c\.next_block (\d+)", lower)[1]))
+    same("locals of a function", LIMITS["locals of a function"], int(re.search(r"ltb \(length c\.locals\) (\d+)", lower)[1]))
     for what, most, past in table("limit", "most", "past it"):
         refusal, *numbers = re.findall(r"\d+", past)
         same(f"what is past the limit of {what}", numbers, [str(number(most) + 1)] * len(numbers))

@@ -19,7 +19,7 @@ LIBRARY = {
     "ℕ": ("Prim.Native.Nat", [("zero", 0), ("suc", 1)]),
 }
 HEAD = re.compile(r"((?:abbrev |unfoldable |pub )*)(\S+)((?: \{[^}]*\})*) :(?= |$)")
-SPECS = "Rattle·definitions·specs.specs."
+SPECS = "Rattle.definitions.specs."
 
 
 def flat(text):
@@ -112,8 +112,8 @@ def declarations(text):
 
 
 def clause_of(name, piece):
-    if name.startswith("_") and name.endswith("_"):
-        return bool(re.match(r".*? %s " % re.escape(name.strip("_")), piece))
+    if name.startswith("◌") and name.endswith("◌"):
+        return bool(re.match(r".*? %s " % re.escape(name.strip("◌")), piece))
     return piece.split()[0] == name
 
 
@@ -200,8 +200,11 @@ class Changer:
 
     def change(self, d, clause, region, start, end, new):
         start, end, new = trimmed(self.text, start, end, new)
-        old, edge = self.text[start:end].rstrip(), r"[^\s(){},;\[\]]"
-        same = [m.start() for m in re.finditer("(?<!%s)%s(?!%s)" % (edge, re.escape(old), edge), self.text[:region[1]]) if m.start() >= region[0]]
+        old = self.text[start:end].rstrip()
+        # (a field may stand behind a variable, and not behind a type)
+        before = "" if old.startswith(".") else r"(?<![^\s(){},;\[\]])"
+        after = r"(?![^\s(){},;\[\]%s])" % ("" if re.search(r"[A-Z]\w+$", old) else ".")
+        same = [m.start() for m in re.finditer(before + re.escape(old) + after, self.text[:region[1]]) if m.start() >= region[0]]
         return Change(self.file, d.name, clause, start, end, old, new, same.index(start) + 1 if len(same) > 1 and start in same else 0)
 
     def of_record(self, d):

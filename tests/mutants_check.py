@@ -27,9 +27,10 @@ class Verdict:
         self.outcome, self.where = outcome, where
 
 
-def rt(*words, cwd="/"):
+def check(folder):
+    """rt check of the crate in this folder, over what the last one there kept."""
     limit = lambda: resource.setrlimit(resource.RLIMIT_CPU, (MOST_SECONDS, MOST_SECONDS))
-    return subprocess.run(["rt", *words], cwd=cwd, capture_output=True, text=True, preexec_fn=limit)
+    return subprocess.run(["rt", "check"], cwd=folder, capture_output=True, text=True, preexec_fn=limit)
 
 
 def errors(output):
@@ -43,12 +44,13 @@ def errors(output):
 
 
 class Copy:
-    """A copy of the crate `definitions`, with all of its proofs or with the rows alone, and an incremental folder of its own."""
+    """A repository of its own with a copy of the crate `definitions`, with all of its proofs or with the rows alone."""
 
     def __init__(self, crate, folder, rows_only):
-        self.folder, self.kept = os.path.join(folder, "definitions"), os.path.join(folder, "kept")
-        shutil.copytree(crate, self.folder, ignore=shutil.ignore_patterns("must-fail"))
-        os.makedirs(self.kept)
+        self.folder = os.path.join(folder, "crates", "definitions")
+        shutil.copytree(crate, self.folder, ignore=shutil.ignore_patterns("must-fail", "out"))
+        with open(os.path.join(folder, "crates.txt"), "w") as f:
+            f.write("definitions:\n")
         if rows_only:
             proofs = os.path.join(self.folder, "proofs")
             for name in os.listdir(proofs):
@@ -61,7 +63,7 @@ class Copy:
                 f.write("".join("pub mod %s\n" % m for m in NEEDED + ROW_FILES))
 
     def check(self):
-        done = rt("check", self.folder, "--incremental", self.kept)
+        done = check(self.folder)
         return done.returncode, done.stdout + done.stderr
 
     def changed(self, change, text):
@@ -91,7 +93,7 @@ class Worker:
         crate = os.path.join(repository, "crates", "definitions")
         self.rows, self.whole = Copy(crate, os.path.join(folder, "rows"), True), Copy(crate, os.path.join(folder, "whole"), False)
         self.scratch = os.path.join(folder, "repository")
-        shutil.copytree(os.path.join(repository, "crates"), os.path.join(self.scratch, "crates"))
+        shutil.copytree(os.path.join(repository, "crates"), os.path.join(self.scratch, "crates"), ignore=shutil.ignore_patterns("must-fail", "out"))
         shutil.copy(os.path.join(repository, "crates.txt"), self.scratch)
 
     def judge(self, change, text, cited):
@@ -116,11 +118,11 @@ class Worker:
         with open(path, "w", encoding="utf-8") as f:
             f.write(change.apply(text))
         try:
-            names = [line.split(":")[0] for line in open(os.path.join(self.scratch, "crates.txt")) if ":" in line and not line.startswith("#")]
+            names = [line.split(":")[0].split()[0] for line in open(os.path.join(self.scratch, "crates.txt")) if ":" in line and not line.startswith("#")]
             for name in FIRST_MET.get(change.file, []) + names:
-                done = rt("check", name, cwd=self.scratch)
+                done = check(os.path.join(self.scratch, "crates", name))
                 if done.returncode:
-                    failed = re.search(r"FAILED: ?(\S+)", done.stdout)
+                    failed = re.search(r"rt: the library (\S+) did not build", done.stdout + done.stderr)
                     return Verdict("code", failed.group(1) if failed else name)
         finally:
             with open(path, "w", encoding="utf-8") as f:

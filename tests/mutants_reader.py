@@ -3,6 +3,8 @@
 import re
 
 WORD = re.compile(r"--[^\n]*|\[\]|[(){},;\[\]]|[^\s(){},;\[\]]+")
+# A variable with what is read of it: `c.next_block`, `w.0`, `K.storage`. A constructor behind its type is one word, as `Class.contract`.
+FIELDS = re.compile(r"(?:[^\W\dA-Z][\w'′]*|[A-Z])(?:\.[\w'′]+)+$")
 NUMBER = re.compile(r"(0x[0-9A-Fa-f]+|[0-9]+)$")
 OPERATORS = {"→": 1, ">>=": 2, ">>": 2, "⊎": 3, "×": 4, "≡": 5, "<": 5, "≤": 5, "&&": 6, "∷": 7, "++": 7, "+": 8, "-": 8, "*": 9, "/": 9, "%": 9}
 LEFT = {">>=", ">>", "+", "-", "*", "/", "%"}
@@ -26,7 +28,10 @@ def tokens_of(text, start, end):
     found, line = [], text.rfind("\n", 0, start) + 1
     for m in WORD.finditer(text, start, end):
         line = text.rfind("\n", 0, m.start()) + 1
-        if not m.group().startswith("--"):
+        if FIELDS.match(m.group()):
+            for part in re.finditer(r"\.?[^.]+", m.group()):
+                found.append(Token(part.group(), m.start() + part.start(), m.start() + part.start() - line))
+        elif not m.group().startswith("--"):
             found.append(Token(m.group(), m.start(), m.start() - line))
     return found
 
@@ -198,10 +203,7 @@ class Reader:
         head = self.atom(scope)
         while True:
             word = self.peek()
-            if word.startswith(".") and len(word) > 1:
-                t = self.take()
-                head = Node("field", head.start, t.end, [head], scope, field=t.text[1:], dot=t.start)
-            elif word == "{":
+            if word == "{":
                 self.group()
                 head = Node("given", head.start, self.last(), [head], scope)
             elif self.starts_atom(word):
@@ -218,6 +220,14 @@ class Reader:
         return bool(word) and word not in OPERATORS and word not in KEYWORDS - {"Type"} and word not in (")", "]", "}", ",", ";", "[", "{")
 
     def atom(self, scope):
+        """An atom with the fields that are read of it."""
+        head = self.plain(scope)
+        while self.peek().startswith(".") and len(self.peek()) > 1:
+            t = self.take()
+            head = Node("field", head.start, t.end, [head], scope, field=t.text[1:], dot=t.start)
+        return head
+
+    def plain(self, scope):
         t = self.take()
         if t.text == "(":
             parts = [self.term(scope)]

@@ -1,5 +1,5 @@
 #!/usr/bin/env bash
-# The limits that the crates keep, each offender by its file and line: a function has at most 8 parameters (one exported to C aside) and a body of at most 40 lines as laid out, a line of a
+# The limits that the crates keep, each offender by its file and line: a function has at most 8 parameters (one exported to C aside) and a body of at most 40 lines as laid out (the table `row_of` of crates/sheet aside), a line of a
 # promise at most 170 characters, a file of src/, specs/ or proofs/ at most 500 lines; src/ and specs/ cite no proof; one name is declared for one thing.
 set -u
 cd "$(dirname "$0")/.." && . tests/part.sh || exit 2
@@ -20,7 +20,7 @@ functions() {
     }
     FNR == 1 { reading = waiting = inside = 0 }
     { line = $0; sub("//.*", "", line); rest = "" }
-    !reading && !inside && match(line, /^ *(pub )?(extern "C" )?fn /) {
+    !reading && !inside && match(line, /^ *(pub(\(crate\))? )?(extern "C" )?fn /) {
       exported = line ~ /extern "C" fn /
       start = FNR
       indent = line
@@ -39,7 +39,7 @@ functions() {
     }
     waiting && line == indent "{" { waiting = 0; inside = FNR }
     inside && line == indent "}" {
-      if (FNR - inside - 1 > 40) said("bodies", start, "the body of " name " has " FNR - inside - 1 " lines")
+      if (FNR - inside - 1 > 40 && !(name == "row_of" && FILENAME == "crates/sheet/src/tables.rt")) said("bodies", start, "the body of " name " has " FNR - inside - 1 " lines")
       inside = 0
     }
     /^ *(ensures|requires) / {
@@ -51,9 +51,9 @@ functions() {
 
 # Names that more than one file of specs/, or crate's code, declares for one thing: the Rust's own, the answer of each operation with its reading, and what the walk that mirrors the definitions of
 # lowering (crates/lower_walk), or the code's state, calls as they do.
-twice=(insert '_>>=_' '_>>_')
-twice+=(Answer answerOf errorOf)
-twice+=(forHeader forStep initLocal needValue newCtx pushValue switchTo terminateIfOpen threeBlocks withLocal)
+twice=(insert '◌>>=◌' '◌>>◌')
+twice+=(Answer answer_of error_of)
+twice+=(for_header for_step init_local need_value new_ctx push_value switch_to terminate_if_open three_blocks with_local)
 
 # The names that are declared twice and are not of those, and those that are not declared twice.
 names() {
@@ -73,6 +73,8 @@ names() {
     }'
 }
 
+crates() { printf '%s\n' crates/*/ | sed 's|^crates/||; s|/$||'; }
+
 offenders() {
   functions
   names
@@ -80,7 +82,8 @@ offenders() {
     lines=$(wc -l <"$file")
     [ "$lines" -le 500 ] || printf 'files %s:501: it has %d lines\n' "$file" "$lines"
   done
-  grep -rnE '(\.|·)proofs\.' crates/*/src crates/*/specs 2>/dev/null | grep -vE '^[^:]*:[0-9]+: *(//|--)' | sed -E 's/^([^:]*:[0-9]+):.*/citations \1: it cites a proof/'
+  # (the library has statements in its own proofs/)
+  grep -rnE "(^|[^A-Za-z0-9_.])Rattle\.($(crates | paste -sd '|'))\.proofs\." crates/*/src crates/*/specs 2>/dev/null | grep -vE '^[^:]*:[0-9]+: *(//|--)' | sed -E 's/^([^:]*:[0-9]+):.*/citations \1: it cites a proof/'
 }
 
 all=$(offenders)

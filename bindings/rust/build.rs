@@ -1,5 +1,5 @@
 //! Links the static library: from the folder `MALOVUNETH_LIB_DIR`, or from
-//! where `rt staticlib malovuneth` writes it in this project.
+//! where `./malovuneth archive` writes it in this project.
 
 use std::env;
 use std::path::{Path, PathBuf};
@@ -33,7 +33,7 @@ fn link() -> Result<(), String> {
         let archive = archive.display();
         return Err(format!(
             "there is no {archive}\n\
-             make it by `rt staticlib malovuneth` in the project's root,\n\
+             make it by `./malovuneth archive` in the project's root,\n\
              or set {VARIABLE} to the folder that has libmalovuneth.a"
         ));
     }

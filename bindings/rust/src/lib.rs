@@ -40,7 +40,7 @@
 //!
 //! The build links `libmalovuneth.a`, for x86-64 Linux, from the folder that
 //! the environment variable `MALOVUNETH_LIB_DIR` names, or from
-//! `target/staticlib` of the project, where `rt staticlib malovuneth` writes it.
+//! `target/staticlib` of the project, where `./malovuneth archive` writes it.
 //!
 //! # Without the standard library
 //!
