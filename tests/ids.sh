@@ -8,6 +8,7 @@ cd "$(dirname "$0")/.." && . tests/part.sh || exit 2
 root=$PWD
 # (no file of a crate may lie elsewhere in the checkout)
 copy=$(mktemp -d) && trap 'rm -rf "$copy"' EXIT || exit 2
+# shellcheck disable=SC2046
 tar cf - crates.txt $(find crates -mindepth 2 -maxdepth 2 \( -name src -o -name specs \)) | tar xf - -C "$copy" && cd "$copy" || { fail "the crates cannot be copied"; finish; }
 
 # places: what wants a LocalId or a BlockId, a line each: parameters and fields, 'NAME.NAME', and variants, 'ENUM::VARIANT'.

@@ -47,7 +47,7 @@ why() {
 
 # reasons: a line for each edit of the log that was refused, as tests/reasons.txt has it.
 reasons() {
-  local line edit first place file number said where
+  local line edit first file number said where
   while IFS= read -r line; do
     line=${line#rt: must-fail } edit=${line%%.edit: refused, as it must be*} first=${line#*: refused, as it must be}
     first=${first#: } first=${first# } first=${first#note: }
