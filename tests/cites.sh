@@ -8,22 +8,22 @@ kit=(io libc os bytes check)
 # cited CRATE: the names that it cites, a line each: in code NAME::.., unless NAME is a module of its own or of std; in code and in antt Rattle.NAME.. Comments cite nothing.
 cited() {
   find "crates/$1/src" "crates/$1/specs" "crates/$1/proofs" \( -name '*.rt' -o -name '*.antt' \) -exec awk '
-    function cite(form, before, after,    rest, name) {
+    function cite(form, before, after, into,    rest, name) {
       for (rest = " " $0; match(rest, form); rest = substr(rest, RSTART + RLENGTH)) {
         name = substr(rest, RSTART, RLENGTH)
         sub(before, "", name)
         sub(after, "", name)
-        names[name]
+        into[name]
       }
     }
     { code = FILENAME ~ /[.]rt$/ }
     code { sub("//.*", "") }
     !code { sub("(^| )--( .*)?$", "") }
-    { cite("[^A-Za-z0-9_.]Rattle[.][a-z0-9_]+[.]", "^[^A-Za-z0-9_.]Rattle[.]", "[.]$") }
-    code { cite("[^A-Za-z0-9_:][a-z][a-z0-9_]*::", "^[^A-Za-z0-9_:]", "::$") }
+    { cite("[^A-Za-z0-9_.]Rattle[.][a-z0-9_]+[.]", "^[^A-Za-z0-9_.]Rattle[.]", "[.]$", proved) }
+    code { cite("[^A-Za-z0-9_:][a-z][a-z0-9_]*::", "^[^A-Za-z0-9_:]", "::$", names) }
     code && /^use std::/ { for (rest = substr($0, 10); match(rest, "[a-z][a-z0-9_]*"); rest = substr(rest, RSTART + RLENGTH)) own[substr(rest, RSTART, RLENGTH)] }
     code && /^ *(pub )?mod / { sub("^ *(pub )?mod ", ""); sub("[^a-z0-9_].*", ""); own[$0] }
-    END { for (name in names) if (!(name in own)) print name }' {} + 2>/dev/null
+    END { for (name in proved) print name; for (name in names) if (!(name in own) && !(name in proved)) print name }' {} + 2>/dev/null
 }
 
 # held CRATE: the crates that declare the types that its code names or gets from calls, and what these are made of, a line each.
