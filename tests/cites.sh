@@ -8,7 +8,7 @@ kit=(io libc os bytes check)
 # cited CRATE: the names that it cites, a line each: in code NAME::.., unless NAME is a module of its own or of std; in code and in antt Rattle.NAME.. Comments cite nothing.
 cited() {
   find "crates/$1/src" "crates/$1/specs" "crates/$1/proofs" \( -name '*.rt' -o -name '*.antt' \) -exec awk '
-    function cite(form, before, after,    rest, name) {
+    function cite(form, before, after, names,    rest, name) {
       for (rest = " " $0; match(rest, form); rest = substr(rest, RSTART + RLENGTH)) {
         name = substr(rest, RSTART, RLENGTH)
         sub(before, "", name)
@@ -19,11 +19,19 @@ cited() {
     { code = FILENAME ~ /[.]rt$/ }
     code { sub("//.*", "") }
     !code { sub("(^| )--( .*)?$", "") }
-    { cite("[^A-Za-z0-9_.]Rattle[.][a-z0-9_]+[.]", "^[^A-Za-z0-9_.]Rattle[.]", "[.]$") }
-    code { cite("[^A-Za-z0-9_:][a-z][a-z0-9_]*::", "^[^A-Za-z0-9_:]", "::$") }
-    code && /^use std::/ { for (rest = substr($0, 10); match(rest, "[a-z][a-z0-9_]*"); rest = substr(rest, RSTART + RLENGTH)) own[substr(rest, RSTART, RLENGTH)] }
+    { cite("[^A-Za-z0-9_.]Rattle[.][a-z0-9_]+[.]", "^[^A-Za-z0-9_.]Rattle[.]", "[.]$", stated) }
+    code { cite("[^A-Za-z0-9_:][a-z][a-z0-9_]*::", "^[^A-Za-z0-9_:]", "::$", called) }
+    # a module of std that is brought in: `use std::io;`, `use std::{fmt, io};`, `use std::io::{self, Read};`
+    code && /^use std::/ {
+      last = $0
+      sub(" *;.*", "", last)
+      if (last ~ "[{]self") { sub("::[{]self.*", "", last) }
+      else if (last ~ "^use std::[{]") { for (rest = last; match(rest, "[{, ][a-z][a-z0-9_]*[,}]"); rest = substr(rest, RSTART + RLENGTH - 1)) own[substr(rest, RSTART + 1, RLENGTH - 2)] }
+      sub(".*::", "", last)
+      if (last ~ "^[a-z0-9_]+$") own[last]
+    }
     code && /^ *(pub )?mod / { sub("^ *(pub )?mod ", ""); sub("[^a-z0-9_].*", ""); own[$0] }
-    END { for (name in names) if (!(name in own)) print name }' {} + 2>/dev/null
+    END { for (name in stated) print name; for (name in called) if (!(name in own)) print name }' {} + 2>/dev/null
 }
 
 # held CRATE: the crates that declare the types that its code names or gets from calls, and what these are made of, a line each.
