@@ -105,7 +105,7 @@ fn verify_blocks(s: &[u8], f: Function) -> Checked
 {
     let mut start = f.first;
     let mut end = program_nodes::block_end(s, start, f.stop);
-    while start < f.stop {
+    'each_block: while start < f.stop {
         match verify_block(s, f, start, end) {
             Checked::Passed => {}
             Checked::Failed(e) => {

@@ -6,8 +6,8 @@ use Rattle.verify_state.proofs.Steps.{Leads}
 use Rattle.verify.proofs.Seconds.{blocks_left}
 use Rattle.verify.proofs.verify_blocks.Given as goal
 
-abbrev pub invariant-loop-start : goal.invariant-loop-start
-invariant-loop-start l = BlocksFrom l.s l.start l.f.stop × (BlockEnds l.s l.start l.f.stop l.end × Leads l.s l.f (blocks_check l.s l.f) (blocks_left l.s l.f l.start))
+abbrev pub invariant-each_block : goal.invariant-each_block
+invariant-each_block l = BlocksFrom l.s l.start l.f.stop × (BlockEnds l.s l.start l.f.stop l.end × Leads l.s l.f (blocks_check l.s l.f) (blocks_left l.s l.f l.start))
 
-abbrev pub decreases-loop-start : goal.decreases-loop-start
-decreases-loop-start l = l.f.stop - l.start
+abbrev pub decreases-each_block : goal.decreases-each_block
+decreases-each_block l = l.f.stop - l.start
