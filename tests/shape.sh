@@ -1,5 +1,5 @@
 #!/usr/bin/env bash
-# The limits that the crates keep, each offender by its file and line: a function has at most 8 parameters (one exported to C aside) and a body of at most 40 lines as laid out (the table `row_of` of crates/sheet aside), a line of a
+# The limits that the crates keep, each offender by its file and line: a function has at most 8 parameters (one exported to C aside) and a body of at most 40 lines as laid out (three matches with an arm for each case of a table aside: `row_of` of crates/sheet, `node` of the 22 instructions, the texts of `VerifyError`), a line of a
 # promise at most 170 characters, a file of src/, specs/ or proofs/ at most 500 lines; src/ and specs/ cite no proof; one name is declared for one thing.
 set -u
 cd "$(dirname "$0")/.." && . tests/part.sh || exit 2
@@ -39,7 +39,7 @@ functions() {
     }
     waiting && line == indent "{" { waiting = 0; inside = FNR }
     inside && line == indent "}" {
-      if (FNR - inside - 1 > 40 && !(name == "row_of" && FILENAME == "crates/sheet/src/tables.rt")) said("bodies", start, "the body of " name " has " FNR - inside - 1 " lines")
+      if (FNR - inside - 1 > 40 && !((name == "row_of" && FILENAME == "crates/sheet/src/tables.rt") || (name == "node" && FILENAME == "crates/program_nodes/src/instr.rt") || (name == "fmt" && FILENAME == "crates/verify_state/src/lib.rt"))) said("bodies", start, "the body of " name " has " FNR - inside - 1 " lines")
       inside = 0
     }
     /^ *(ensures|requires) / {
@@ -52,8 +52,12 @@ functions() {
 # Names that more than one file of specs/, or crate's code, declares for one thing: the Rust's own, the answer of each operation with its reading, and what the walk that mirrors the definitions of
 # lowering (crates/lower_walk), or the code's state, calls as they do.
 twice=(insert '◌>>=◌' '◌>>◌')
-twice+=(Answer answer_of error_of)
+twice+=(answer_of error_of refusal_of Refusal)
 twice+=(for_header for_step init_local need_value new_ctx push_value switch_to terminate_if_open three_blocks with_local)
+# What the Rust has by one name and stands here as the kind of a record and as the node that has it, and what both sheets' nodes call alike.
+twice+=(Expr Stmt Instruction Terminator Kind Function Functions Param Blocks Ids ids_in ids_of_all functions_of function_in blocks_in form_of)
+# Readings of the code's values by the name that the definitions have for what they give, each in the specs of one crate.
+twice+=(contract_of counted Grown id_of length_of local_word named number_of op_number Reads returned Stands value_word)
 
 # The names that are declared twice and are not of those, and those that are not declared twice.
 names() {

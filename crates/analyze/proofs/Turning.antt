@@ -1,81 +1,82 @@
--- All functions, by their places: what is left gives what all give. Assumes nothing.
-use mathlib.Core.Path.{◌≡◌, refl, sym, ap, ◌∙◌, subst}
-use mathlib.Core.List.{List, [], ◌∷◌, map}
-use Prim.Native.Nat.{ℕ, zero, suc, ◌+◌, ◌-◌, ◌≤◌, ◌<◌}
-use native.Mathlib.Numerals.{add-one}
+-- The functions of a contract one by one. Assumes nothing.
+use mathlib.Core.Path.{◌≡◌, refl, ap, sym, ◌∙◌}
+use mathlib.Core.List.{List, [], ◌∷◌}
+use mathlib.Core.Option.{none, some}
+use Prim.Native.Nat.{ℕ, zero, suc, ◌+◌, ◌<◌, ◌≤◌}
 use native.Mathlib.Omega.{arith}
-use lib.ListN.{length, get_or, take}
-use Rattle.definitions.specs.Result.{ok, ◌>>◌}
-use Rattle.definitions.specs.Ast.{Function}
-use Rattle.definitions.specs.Records.{Tree, read_records, gather}
-use Rattle.definitions.specs.ContractSheet.{read_contract, function_of}
-use Rattle.sheet.specs.Passed.{ContractPassed}
-use Rattle.contract_nodes.specs.Ready.{tree_at, function_at}
-use Rattle.contract_nodes.proofs.Tops.{ContractAt, contract_at}
-use Rattle.contract_lookup.specs.Listed.{Listed}
-use Rattle.contract_lookup.proofs.Lasts.{gather_map}
-use Rattle.analyze_walk.specs.Stops.{check_functions}
-use Rattle.analyze_state.specs.Scene.{body_check_of}
-use Rattle.analyze_state.specs.declared.SemaError.{SemaError}
-use Rattle.analyze_state.specs.declared.BodyCheck.{BodyCheck}
-use Rattle.analyze_state.specs.declared.BodyCheck.TheVariants as checked
-use Rattle.analyze.specs.Whole.{Empty, FunctionChecked}
+use native.Mathlib.Numerals.{add-one}
+use lib.ListN.{length, drop}
+use Rattle.definitions.specs.Answers.{Refusal}
+use Rattle.definitions.specs.Result.{err, ok, ◌>>◌, Done}
+use Rattle.definitions.specs.Ast.{Contract, Function, Stmts}
+use Rattle.definitions.specs.ContractSheet.{read_contract}
+use Rattle.definitions.specs.Ir.{IrType}
+use Rattle.definitions.specs.Sema.{return_type}
+use Rattle.definitions.specs.Analyze.{Env, param_env}
+use Rattle.contract_lookup.specs.Answers.{nth_function}
+use Rattle.std.specs.Prelude as code
+use Rattle.std.specs.Prelude.{None, Some}
+use Rattle.std.specs.Option.{IsSome}
+use Rattle.ir.specs.Answers.{option_of}
+use Rattle.contract_nodes.specs.Nodes.{function_in}
+use Rattle.contract_nodes.specs.declared.contract.Function as nodes
+use Rattle.analyze_walk.specs.Stops.{Checking, check_stmts, check_function, check_functions}
 
--- the functions at m places from the i-th on
-unfoldable pub functions_from : (s places : List ℕ) (i m : ℕ) → List Function
-functions_from s places i zero = []
-functions_from s places i (suc m) = function_at s (get_or places i 0) ∷ functions_from s places (suc i) m
+-- ONE FUNCTION, by its statements
+pub by_body : (K : Contract) (F : Function) {ret : IrType} {body : Stmts} {env : Env} {r : Checking Env} → ret ≡ return_type F.return_type → body ≡ F.body → env ≡ param_env F.params [] → r ≡ check_stmts K ret body env → (r >> ok tt) ≡ check_function K F
+unfolding check_function
+by_body K F {ret} {body} {env} {r} a b e w =
+    ap (λ (r : Checking Env). r >> ok tt) (w ∙ (ap (λ (t : IrType). check_stmts K t body env) a ∙ (ap (λ (ts : Stmts). check_stmts K (return_type F.return_type) ts env) b ∙ ap (check_stmts K (return_type F.return_type) F.body) e)))
 
-later : (s : List ℕ) (p : ℕ) (places : List ℕ) (i m : ℕ) → functions_from s (p ∷ places) (suc i) m ≡ functions_from s places i m
-unfolding functions_from
-later s p places i zero = refl
-later s p places i (suc m) = ap (λ (fs : List Function). function_at s (get_or places i 0) ∷ fs) (later s p places (suc i) m)
+-- THE LOOP: what is left of the functions gives what all of them give
+there : (fs : List Function) (i : ℕ) {F : Function} → some F ≡ nth_function fs i → drop i fs ≡ F ∷ drop (suc i) fs
+there [] i h = absurd (cc)
+there (f ∷ fs) zero {F} h = let e : F ≡ f = cc in rw e
+there (f ∷ fs) (suc i) h = there fs i h
 
-from_first : (s places : List ℕ) (n : ℕ) → n ≤ length places → functions_from s places 0 n ≡ map function_of (map (tree_at s) (take n places))
-unfolding functions_from
-from_first s places zero h = refl
-from_first s [] (suc n) h = absurd (omega arith)
-from_first s (p ∷ places) (suc n) h = ap (λ (fs : List Function). function_at s p ∷ fs) (later s p places 0 n ∙ from_first s places n (omega arith))
+pub is_there : (fs : List Function) (i : ℕ) → i < length fs → none ≡ nth_function fs i → ⊥
+is_there [] i l h = omega arith
+is_there (f ∷ fs) zero l h = absurd (cc)
+is_there (f ∷ fs) (suc i) l h = is_there fs i (omega arith) h
 
--- the listed places are those of the contract's functions
-all_are : {s places : List ℕ} {n : ℕ} → ContractPassed s → Listed s 4 places n → functions_from s places 0 n ≡ (read_contract s).functions
-all_are {s} {places} {n} C L =
-    let D : ContractAt s = contract_at C in
-    from_first s places n L.inside
-    ∙ (ap (map function_of) (L.are ∙ ap (gather 4 4 (λ (t : Tree). t)) D.children)
-    ∙ (sym (gather_map 4 function_of (read_records s 8 (length s))) ∙ sym D.functions))
+past : (fs : List Function) (i : ℕ) → length fs ≤ i → drop i fs ≡ []
+past [] zero h = refl
+past [] (suc i) h = refl
+past (f ∷ fs) zero h = absurd (omega arith)
+past (f ∷ fs) (suc i) h = past fs i (omega arith)
 
--- the functions at the first i of n places passed, and what is left gives what all give
-pub record Turning (s places : List ℕ) (n : ℕ) (l₀ heads₀ l heads : List ℕ) (i : ℕ) : Type 0 where
-  pub within : i ≤ n
-  pub long : length l ≡ length l₀
-  pub wide : length heads ≡ length heads₀
-  pub empty : Empty s l heads
-  pub left : check_functions (read_contract s) (functions_from s places i (n - i)) ≡ check_functions (read_contract s) (read_contract s).functions
+module _ (K : Contract) (fs : List Function) (i : ℕ) {R : Checking Done} (is : check_functions K (drop i fs) ≡ R) where
+  module _ {F : Function} (h : some F ≡ nth_function fs i) where
+    of_first : Checking Done → Checking Done
+    of_first r = r >> check_functions K (drop (suc i) fs)
 
-pub begins : {s places : List ℕ} {n : ℕ} {l heads : List ℕ} → ContractPassed s → Listed s 4 places n → Empty s l heads → Turning s places n l heads l heads 0
-begins {s} {places} {n} C L E =
-    let m : n - 0 ≡ n = omega arith in
-    record { within = omega arith; long = refl; wide = refl; empty = E; left = rw m (ap (check_functions (read_contract s)) (all_are C L)) }
+    opened : {r : Checking Done} → r ≡ check_function K F → of_first r ≡ R
+    unfolding check_functions of_first
+    opened w = ap of_first w ∙ (ap (check_functions K) (sym (there fs i h)) ∙ is)
 
-module _ {s places : List ℕ} {n : ℕ} {l₀ heads₀ l heads : List ℕ} {i : ℕ} (T : Turning s places n l₀ heads₀ l heads i) where
-  pub ends : (i < n → ⊥) → ok tt ≡ check_functions (read_contract s) (read_contract s).functions
-  unfolding functions_from check_functions
-  ends h =
-      let w = T.within in
-      let m : n - i ≡ 0 = omega arith in
-      rw m at T.left
+    pub refused : {x : Refusal} → err x ≡ check_function K F → err x ≡ R
+    unfolding of_first
+    refused w = opened w
 
-  -- the next one came to r
-  module _ (h : i < n) {l₁ heads₁ : List ℕ} {r : BodyCheck} (F : FunctionChecked s (get_or places i 0) l₁ heads₁ r) where
-    next_is : (body_check_of r >> check_functions (read_contract s) (functions_from s places (i + 1) (n - (i + 1)))) ≡ check_functions (read_contract s) (read_contract s).functions
-    unfolding functions_from check_functions
-    next_is =
-        let m : n - i ≡ suc (n - (i + 1)) = omega arith in
-        rw (F.is, add-one) (rw (m, add-one) at T.left)
+    pub passed : {d : Done} → ok d ≡ check_function K F → check_functions K (drop (i + 1) fs) ≡ R
+    unfolding of_first
+    passed w = rw add-one (opened w)
 
-    pub goes_on : r ≡ checked.Passed → length l₁ ≡ length l → length heads₁ ≡ length heads → Turning s places n l₀ heads₀ l₁ heads₁ (i + 1)
-    goes_on q a b = record { within = omega arith; long = a ∙ T.long; wide = b ∙ T.wide; empty = (subst (FunctionChecked s (get_or places i 0) l₁ heads₁) q F).empty; left = rw q at next_is }
+  pub all_passed : length fs ≤ i → ok tt ≡ R
+  unfolding check_functions
+  all_passed h = ap (check_functions K) (sym (past fs i h)) ∙ is
 
-    pub refuses : {x : SemaError} → r ≡ checked.Failed x → body_check_of (checked.Failed x) ≡ check_functions (read_contract s) (read_contract s).functions
-    refuses q = rw q at next_is
+-- there is an i-th function, and what was found is it
+pub some_there : (fs : List Function) (i : ℕ) (o : code.Option nodes.Function) → option_of function_in o ≡ nth_function fs i → i < length fs → IsSome o
+some_there fs i None h l = absurd (is_there fs i l h)
+some_there fs i (Some f) h l = refl
+
+module _ {s s₁ : List ℕ} (same : s₁ ≡ s) where
+  pub found : (i : ℕ) {o : code.Option nodes.Function} {f : nodes.Function} → o ≡ Some f → option_of function_in o ≡ nth_function (read_contract s₁).functions i → some (function_in f) ≡ nth_function (read_contract s).functions i
+  found i q h = ap (option_of function_in) (sym q) ∙ (h ∙ ap (λ (s : List ℕ). nth_function (read_contract s).functions i) same)
+
+  pub of_sheet : (F : Function) {r : Checking Done} → r ≡ check_function (read_contract s₁) F → r ≡ check_function (read_contract s) F
+  of_sheet F w = w ∙ ap (λ (s : List ℕ). check_function (read_contract s) F) same
+
+  pub many : length (read_contract s₁).functions ≡ length (read_contract s).functions
+  many = ap (λ (s : List ℕ). length (read_contract s).functions) same

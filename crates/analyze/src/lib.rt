@@ -1,128 +1,128 @@
-// The body check: from any bytes to acceptance or one numbered refusal.
+// The body check: from any bytes to acceptance or one refusal.
 #![tactic(auto)]
 
-ghost use Rattle.std.specs.Prelude.{◌≡◌, ◌+◌, ◌*◌, ◌≤◌, length};
+ghost use Rattle.std.specs.Prelude.{◌≡◌, ◌+◌, ◌*◌, ◌≤◌, [], length, OnOk};
 ghost use Rattle.definitions.specs.Answers.{analyze_sheet};
-ghost use Rattle.definitions.specs.Grammar.{Class};
-ghost use Rattle.sheet.specs.Passed.{ContractPassed};
-ghost use Rattle.contract_nodes.specs.Ready.{Ready};
-ghost use Rattle.analyze_env.specs.Known.{Known};
-ghost use Rattle.analyze.specs.Whole.{answer_of, ParamsKnown, Empty, AllListed, FunctionChecked, BodiesChecked};
+ghost use Rattle.definitions.specs.Analyze.{param_env};
+ghost use Rattle.ir.specs.Answers.{done_of};
+ghost use Rattle.contract_nodes.specs.Nodes.{contract_in, function_in};
+ghost use Rattle.analyze_env.specs.Names.{Names};
+ghost use Rattle.analyze_walk.specs.Stops.{check_function, check_functions};
+ghost use Rattle.analyze_state.specs.Errors.{error_of};
+ghost use Rattle.analyze_state.specs.State.{sheet_of, contract_of, OfSheet};
+ghost use Rattle.analyze.specs.Whole.{answer_of, Empty};
 
-use analyze_env::{ALL, FEW, Ty, insert, undo};
-use analyze_simple::KnownNames;
-use analyze_state::{Analyzer, BodyCheck, SemaError};
-use analyze_stmts::{Span, analyze_stmts};
-use contract_lookup::places;
-use contract_lookup::places::places_of;
+use analyze_env::{ALL, Env, FEW, Ty};
+use analyze_state::{Analyzer, SemaError};
+use analyze_stmts::analyze_stmts;
+use contract_lookup::items::{Functions, Structs};
 use contract_lookup::types::{from_str, return_type};
-use format::{contract, kinds};
-use ir::Name;
-use reader::{read, read_u16};
-use sheet::ContractCheck;
+use contract_nodes::{Contract, Function};
+use ir::IrType;
+use sheet::ContractError;
+use std::error::Error;
+use std::fmt;
 
-// How many structs and functions a contract has.
-#[derive(Clone, Copy)]
-struct Counts {
-    structs: usize,
-    functions: usize,
+// Why a sheet is refused.
+#[derive(Clone, Copy, Debug, PartialEq, Eq)]
+pub enum Refusal {
+    Contract(ContractError),
+    Sema(SemaError),
 }
 
-// The answer: acceptance, or why there is none.
-#[derive(Clone, Copy)]
-pub enum Answer {
-    Accepted,
-    TooLong,
-    Malformed(usize),
-    OverLimit(usize),
-    Refused(SemaError),
-}
+impl From<ContractError> for Refusal {
+    ghost use Rattle.analyze.specs.declared.Refusal.TheVariants as refusal;
 
-// The n parameters at a place are known, in order.
-fn insert_params(s: &[u8], at: usize, n: usize, entries: &mut [u64], heads: &mut [u16])
-    requires known { Known entries.old heads.old 0 × ((n ≤ 16) × (16 ≤ length entries.old)) }
-    requires params_fit { (at + 4 * n ≤ length s.now) × (length s.now ≤ 32768) }
-    ensures { ParamsKnown s.now at n entries.old entries.new heads.new }
-{
-    let mut i = 0;
-    while i < n {
-        let place = at + contract::PARAM * i;
-        let name = Name::new(read_u16(s, place));
-        let ty = from_str(Name::new(read_u16(s, place + contract::PARAM_TYPE)));
-        insert(entries, heads, i, name, Ty::Known(ty));
-        i += 1;
+    ghost from_gives = { λ e r. r ≡ refusal.Contract e };
+
+    fn from(e: ContractError) -> Refusal {
+        Refusal::Contract(e)
     }
 }
 
-// The function at a place. No name is known before it, and none behind it.
-fn analyze_function(
-    s: &[u8],
-    at: usize,
-    entries: &mut [u64],
-    heads: &mut [u16],
-    structs: &[u32],
-    functions: &[u32],
-    counts: Counts,
-) -> BodyCheck
-    requires contract_passed { ContractPassed s.now × Ready Class.function s.now at 39 }
-    requires empty { Empty s.now entries.old heads.old × AllListed s.now structs.now functions.now counts }
-    ensures { FunctionChecked s.now at entries.new heads.new result }
+impl From<SemaError> for Refusal {
+    ghost use Rattle.analyze.specs.declared.Refusal.TheVariants as refusal;
+
+    ghost from_gives = { λ e r. r ≡ refusal.Sema e };
+
+    fn from(e: SemaError) -> Refusal {
+        Refusal::Sema(e)
+    }
+}
+
+impl fmt::Display for Refusal {
+    fn fmt<W: fmt::Write>(&self, f: &mut fmt::Formatter<W>) -> fmt::Result {
+        match self {
+            Refusal::Contract(e) => e.fmt(f),
+            Refusal::Sema(e) => e.fmt(f),
+        }
+    }
+}
+
+impl Error for Refusal {}
+
+// The parameters of a function are known, in order.
+fn insert_params(env: &mut Env, f: Function)
+    requires { (env.old.names ≡ []) × (16 ≤ env.old.room) }
+    ensures is { env.new ≡ record { names = param_env (function_in f.entry).params []; room = env.old.room } }
+    ensures few { length env.new.names ≤ 16 }
 {
-    let n = read(s, at + contract::PARAM_COUNT, 2);
-    insert_params(s, at + contract::PARAMS, n, entries, heads);
-    let ret = return_type(read_u16(s, at + contract::RETURN_TYPE));
-    let analyzer = Analyzer {
-        names: n,
-        structs: counts.structs,
-        functions: counts.functions,
+    for i in 0..f.param_count() {
+        let param = f.param(i);
+        env.insert(param.name, Ty::Known(from_str(param.ty)));
+    }
+}
+
+// A function of the contract. No name is known before it, and none behind it.
+fn analyze_function(a: Analyzer, env: &mut Env, f: Function) -> Result<(), SemaError>
+    requires of_sheet { OfSheet a f.contract }
+    requires empty { Empty (sheet_of a) env.old }
+    ensures is { done_of error_of result ≡ check_function (contract_of a.entry) (function_in f.entry) }
+    ensures empty { OnOk result (Empty (sheet_of a.entry) env.new) }
+{
+    insert_params(env, f);
+    let ret = return_type(f.return_type());
+    let a = Analyzer {
+        structs: a.structs,
+        functions: a.functions,
         ret,
     };
-    let span = Span {
-        from: at + contract::PARAMS + contract::PARAM * n,
-        end: at + read(s, at, 4),
-    };
-    let body = analyze_stmts(
-        s,
-        span,
-        contract::FUNCTION_DEPTH - 1,
-        entries,
-        heads,
-        structs,
-        functions,
-        analyzer,
-    );
-    match body {
-        KnownNames::Next(names) => {
-            undo(entries, heads, names, 0);
-            BodyCheck::Passed
-        }
-        KnownNames::Refused(e) => BodyCheck::Failed(e),
-    }
+    analyze_stmts(&a, env, f.body())?;
+    env.truncate(0);
+    Ok(())
 }
 
 // All functions, in order.
-fn analyze_functions(s: &[u8], entries: &mut [u64], heads: &mut [u16]) -> BodyCheck
-    requires { ContractPassed s.now × Empty s.now entries.old heads.old }
-    ensures { BodiesChecked s.now result }
+fn analyze_functions(contract: Contract, env: &mut Env) -> Result<(), SemaError>
+    requires { Empty contract.sheet.now env.old }
+    ensures { done_of error_of result ≡ check_functions (contract_in contract.entry) (contract_in contract.entry).functions }
 {
-    let mut structs = [0u32; places::MOST];
-    let mut functions = [0u32; places::MOST];
-    let counts = Counts {
-        structs: places_of(s, kinds::STRUCT, &mut structs),
-        functions: places_of(s, kinds::FUNCTION, &mut functions),
+    let structs = Structs::new(contract);
+    let functions = Functions::new(contract);
+    let a = Analyzer {
+        structs: &structs,
+        functions: &functions,
+        ret: IrType::Void,
     };
-    let mut i = 0;
-    while i < counts.functions {
-        let at = functions[i] as usize;
-        match analyze_function(s, at, entries, heads, &structs, &functions, counts) {
-            BodyCheck::Passed => {}
-            BodyCheck::Failed(e) => {
-                return BodyCheck::Failed(e);
-            }
-        }
-        i += 1;
+    for i in 0..functions.len() {
+        let f = functions.get(i).unwrap();
+        analyze_function(a, env, f)?;
     }
-    BodyCheck::Passed
+    Ok(())
+}
+
+// All functions, with room for so many names in so many chains.
+fn analyze_with<const NAMES: usize, const CHAINS: usize>(
+    contract: Contract,
+) -> Result<(), SemaError>
+    requires names { (length contract.sheet.now + 256 ≤ 16 * NAMES) × (NAMES ≤ 65535) }
+    requires chains { (1024 ≤ CHAINS) × (CHAINS ≤ 65536) }
+    ensures { done_of error_of result ≡ check_functions (contract_in contract.entry) (contract_in contract.entry).functions }
+{
+    let mut entries = [0u64; NAMES];
+    let mut heads = [0u16; CHAINS];
+    let mut env = Env::new(&mut entries, &mut heads);
+    analyze_functions(contract, &mut env)
 }
 
 // A sheet of at most SHORT bytes has so few names that chains of them are short.
@@ -132,46 +132,21 @@ const SHORT_NAMES: usize = 80;
 
 const MOST_NAMES: usize = 2064;
 
-fn analyze_short(s: &[u8]) -> BodyCheck
-    requires { ContractPassed s.now × (length s.now ≤ 1024) }
-    ensures { BodiesChecked s.now result }
+// The functions of a contract.
+fn analyze_contract(contract: Contract) -> Result<(), SemaError>
+    ensures { done_of error_of result ≡ check_functions (contract_in contract.entry) (contract_in contract.entry).functions }
 {
-    let mut entries = [0u64; SHORT_NAMES];
-    let mut heads = [0u16; FEW];
-    analyze_functions(s, &mut entries, &mut heads)
-}
-
-fn analyze_long(s: &[u8]) -> BodyCheck
-    requires { ContractPassed s.now }
-    ensures { BodiesChecked s.now result }
-{
-    let mut entries = [0u64; MOST_NAMES];
-    let mut heads = [0u16; ALL];
-    analyze_functions(s, &mut entries, &mut heads)
-}
-
-// A contract sheet that passed its check.
-fn analyze_contract(s: &[u8]) -> BodyCheck
-    requires { ContractPassed s.now }
-    ensures { BodiesChecked s.now result }
-{
-    if s.len() <= SHORT {
-        return analyze_short(s);
+    if contract.sheet.len() <= SHORT {
+        return analyze_with::<SHORT_NAMES, FEW>(contract);
     }
-    analyze_long(s)
+    analyze_with::<MOST_NAMES, ALL>(contract)
 }
 
 // The checks in their order, then the bodies.
-pub fn analyze(sheet: &[u8]) -> Answer
+pub fn analyze(sheet: &[u8]) -> Result<(), Refusal>
     ensures { answer_of result ≡ analyze_sheet sheet.now }
 {
-    match sheet::check_contract(sheet) {
-        ContractCheck::Passed => match analyze_contract(sheet) {
-            BodyCheck::Passed => Answer::Accepted,
-            BodyCheck::Failed(e) => Answer::Refused(e),
-        },
-        ContractCheck::TooLong => Answer::TooLong,
-        ContractCheck::Malformed(place) => Answer::Malformed(place),
-        ContractCheck::OverLimit(place) => Answer::OverLimit(place),
-    }
+    let contract = Contract::new(sheet)?;
+    analyze_contract(contract)?;
+    Ok(())
 }

@@ -6,12 +6,13 @@ use mathlib.Core.Option.{none, some}
 use Prim.Native.Nat.{ℕ, zero, suc, ◌+◌, ◌-◌, ◌≤◌, ◌<◌}
 use native.Mathlib.Numerals.{add-one}
 use native.Mathlib.Omega.{arith}
-use lib.ListN.{length, get_or, set, replicate, length-set, length-replicate, get_or-replicate}
+use lib.ListN.{length, drop, get_or, set, replicate, length-set, length-replicate, get_or-replicate}
 use lib.Seq.{get_or-set_same, get_or-set_other}
 use borrow.Author.Tests.{eq-eqb, ne_eqb}
-use Rattle.definitions.specs.Analyze.{Ty, get}
+use Rattle.definitions.specs.Analyze.{Ty, Env, get, insert}
 use Rattle.definitions.proofs.Results.{by_eq}
-use Rattle.analyze_env.specs.Known.{name_in, link_in, ty_in, env_of, chain_of, chain_at, newest, Known, Inserted}
+use Rattle.analyze_env.specs.Entries.{name_in, link_in, ty_in, env_of, chain_of, chain_at, newest, Known}
+use Rattle.analyze_env.specs.Names.{Names, named, truncated}
 
 -- THE NEWEST OF A CHAIN, of w chains
 module _ (w : ℕ) (l : List ℕ) (b : ℕ) where
@@ -116,6 +117,12 @@ stored heads b v right at_b others i h =
     (λ q. rw q (get_or-set_same heads b v 0 (omega arith) ∙ at_b))
     (λ u. get_or-set_other heads b i v 0 u ∙ others i h u)
 
+-- one name more: what was known before is known as it was
+pub record Inserted (l heads : List ℕ) (n name : ℕ) (t : Ty) (l₁ heads₁ : List ℕ) : Type 0 where
+  pub known : Known l₁ heads₁ (n + 1)
+  pub more : env_of l₁ (n + 1) ≡ insert name t (env_of l n)
+  pub long : length l₁ ≡ length l
+
 -- ONE MORE
 module _ {l heads : List ℕ} {n name : ℕ} {t : Ty} {b : ℕ} (e : ℕ) (K : Known l heads n) (room : n < length l)
     (chain-is : (b ≡ chain_of (length heads) name) × (b < length heads)) (entry-is : (name_in e ≡ name) × (link_in e ≡ get_or heads b 0) × (ty_in e ≡ t)) where
@@ -139,10 +146,9 @@ module _ {l heads : List ℕ} {n name : ℕ} {t : Ty} {b : ℕ} (e : ℕ) (K : K
       let v : i < n = omega arith in
       rw (below_set l n e i v, newest_set l n e (length heads) (chain_at (length heads) l i) i (omega arith)) (K.link i v))
 
-  pub inserted : Inserted l heads n name t (set l n e) (set heads b (n + 1)) (n + 1)
+  pub inserted : Inserted l heads n name t (set l n e) (set heads b (n + 1))
   unfolding env_of
   inserted = record {
-    next = refl;
     known = record {
       room = rw length-set (omega arith);
       short = rw length-set K.short;
@@ -151,10 +157,7 @@ module _ {l heads : List ℕ} {n name : ℕ} {t : Ty} {b : ℕ} (e : ℕ) (K : K
       link = simp length-set link_after;
     };
     more = rw (add-one, here, entry-is.0, entry-is.2, env_set l n e n (omega arith));
-    kept = env_set l n e;
-    same = below_set l n e;
     long = rw length-set;
-    wide = rw length-set;
   }
 
 -- ONE LESS
@@ -183,3 +186,32 @@ none_known l heads short wide zeros = record { room = omega arith; short = short
 pub zeros_known : (l : List ℕ) (n : ℕ) → length l ≤ 65535 → 1024 ≤ n → Known l (replicate n 0) 0
 zeros_known l n short wide =
     none_known l (replicate n 0) short (rw length-replicate wide) (λ i h. get_or-replicate n i 0 0 (omega (arith, length-replicate {A = ℕ} n 0)))
+
+-- WHAT A CONTRACT SEES
+pub env_length : (l : List ℕ) (n : ℕ) → length (env_of l n) ≡ n
+unfolding env_of
+env_length l zero = refl
+env_length l (suc n) = omega (arith, env_length l n)
+
+env_drop : (l : List ℕ) (m k n : ℕ) → n ≡ k + m → drop k (env_of l n) ≡ env_of l m
+unfolding env_of
+env_drop l m zero n e = let q : n ≡ m = omega arith in rw q
+env_drop l m (suc k) zero e = absurd (omega arith)
+env_drop l m (suc k) (suc n) e = env_drop l m k n (omega arith)
+
+module _ (l : List ℕ) (n : ℕ) {v : Names} (view-is : record { names = env_of l n; room = length l } ≡ v) where
+  pub names_are : env_of l n ≡ v.names
+  names_are = ap (λ (w : Names). w.names) view-is
+
+  pub count_is : n ≡ length v.names
+  count_is = sym (env_length l n) ∙ ap length names_are
+
+  pub room_is : length l ≡ v.room
+  room_is = ap (λ (w : Names). w.room) view-is
+
+  pub cut : (m : ℕ) → m ≤ n → record { names = env_of l m; room = length l } ≡ truncated m v
+  cut m h =
+      rw (← view-is, env_length l n) (ap (λ (es : Env). record { names = es; room = length l }) (sym (env_drop l m (n - m) n (omega arith))))
+
+  pub more_is : {heads l₁ heads₁ : List ℕ} {name : ℕ} {t : Ty} → Inserted l heads n name t l₁ heads₁ → record { names = env_of l₁ (n + 1); room = length l₁ } ≡ named name t v
+  more_is I = rw (← view-is, I.more, I.long)

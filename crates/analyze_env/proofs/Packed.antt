@@ -1,16 +1,14 @@
 -- A name that is known, packed into a number and read back. Assumes nothing.
 use mathlib.Core.Path.{◌≡◌, refl, ap}
-use mathlib.Core.Bool.{true, false}
 use Prim.Native.Nat.{ℕ, ◌+◌, ◌*◌, ◌/◌, ◌%◌, ◌≤◌, ◌<◌}
 use native.Mathlib.Omega.{arith}
-use lib.Dec.{eqb}
-use borrow.Author.Tests.{eq-eqb, ne_eqb, eqb-true}
-use Rattle.definitions.proofs.Results.{by_test}
+use borrow.Author.Tests.{eq-eqb, ne_eqb}
 use Rattle.definitions.specs.Ir.{IrType, tag_of, name_of}
 use Rattle.definitions.specs.Records.{type_from}
-use Rattle.definitions.specs.Analyze.{Ty, known, Unknown, differs}
+use Rattle.definitions.specs.Analyze.{Ty, known, Unknown}
 use Rattle.ir.proofs.Codes.{type_back, tag_low}
-use Rattle.analyze_env.specs.Known.{ty_code, ty_from, name_in, link_in, ty_in}
+use Rattle.analyze_env.specs.Types.{ty_code, ty_from}
+use Rattle.analyze_env.specs.Entries.{name_in, link_in, ty_in}
 
 ty_back : (t : Ty) → ty_code t < 4294967296 → ty_from (ty_code t) ≡ t
 unfolding ty_from
@@ -42,27 +40,3 @@ unknown_in e h = rw (eq-eqb (e / 4294967296) 5 h)
 pub known_in : (e : ℕ) (t : IrType) → (e / 4294967296 ≡ 5 → ⊥) → t ≡ type_from (e / 4294967296 % 65536) (e / 4294967296 / 65536 % 65536) → known t ≡ ty_in e
 unfolding ty_in ty_from
 known_in e t h q = rw (ne_eqb (e / 4294967296) 5 h) (ap known q)
-
--- TWO TYPES, by their codes
-pub left_unknown : (a b : Ty) → ty_code a ≡ 5 → false ≡ differs a b
-left_unknown (known t) b e = absurd (omega (arith, tag_low t))
-left_unknown Unknown b e = refl
-
-pub right_unknown : (a b : Ty) → ty_code b ≡ 5 → false ≡ differs a b
-right_unknown (known t) (known u) e = absurd (omega (arith, tag_low u))
-right_unknown (known t) Unknown e = refl
-right_unknown Unknown b e = refl
-
-pub same_type : (a b : Ty) → ty_code a ≡ ty_code b → false ≡ differs a b
-same_type (known t) (known u) e =
-    rw (eq-eqb (tag_of t) (tag_of u) (omega (arith, tag_low t, tag_low u)), eq-eqb (name_of t) (name_of u) (omega (arith, tag_low t, tag_low u)))
-same_type (known t) Unknown e = refl
-same_type Unknown b e = refl
-
-pub other_type : (a b : Ty) → (ty_code a ≡ 5 → ⊥) → (ty_code b ≡ 5 → ⊥) → (ty_code a ≡ ty_code b → ⊥) → true ≡ differs a b
-other_type (known t) (known u) x y e =
-    by_test (eqb (tag_of t) (tag_of u))
-    (λ q. rw (q, ne_eqb (name_of t) (name_of u) (λ n. e (omega (arith, eqb-true (tag_of t) (tag_of u) q)))))
-    (λ q. rw q)
-other_type (known t) Unknown x y e = absurd (y refl)
-other_type Unknown b x y e = absurd (x refl)

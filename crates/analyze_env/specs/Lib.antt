@@ -1,1 +1,4 @@
-pub mod Known
+pub mod Types
+pub mod Entries
+pub mod Names
+pub mod Env

@@ -1,106 +1,70 @@
--- The fields of a struct literal checked one by one: what is left gives what the whole literal gives. Assumes nothing.
-use mathlib.Core.Path.{◌≡◌, refl, ap, sym, ◌∙◌}
+-- The fields of a value and of a literal: what each way out of the code is in the definitions. Assumes nothing.
+use mathlib.Core.Path.{◌≡◌, refl, ap, ◌∙◌}
 use mathlib.Core.List.{List}
+use mathlib.Core.Bool.{Bool}
 use mathlib.Core.Option.{Option, none, some}
-use Prim.Native.Nat.{ℕ, ◌+◌, ◌-◌, ◌≤◌, ◌<◌}
-use Rattle.definitions.specs.Fields.{le}
-use Rattle.definitions.specs.Result.{err, ok, ◌>>=◌, ◌>>◌, ok_or_else, Done}
-use Rattle.definitions.specs.Grammar.{Class}
-use Rattle.definitions.specs.Ast.{FieldInits, Param, Struct}
-use Rattle.definitions.specs.ContractSheet.{read_contract}
+use Prim.Native.Nat.{ℕ}
+use Rattle.definitions.specs.Answers.{Refusal}
+use Rattle.definitions.specs.Result.{err, ok, ◌>>=◌, ok_or_else, Done}
+use Rattle.definitions.specs.Ast.{Param, Struct, Contract}
 use Rattle.definitions.specs.Ir.{IrType}
 use Rattle.definitions.specs.Sema.{from_str}
 use Rattle.definitions.specs.Lower.{struct_named}
-use Rattle.definitions.specs.Analyze.{Ty, known, differs, Env, field_type}
-use Rattle.analyze_walk.specs.Stops.{Checking, sema, refuse_if, check_expr, check_fields}
-use Rattle.sheet.specs.Passed.{record_kind, stop_of}
-use Rattle.contract_nodes.specs.Ready.{expr_at, Ready, ReadyAll}
-use Rattle.analyze_state.specs.Errors.{error_of}
-use Rattle.analyze_state.specs.Scene.{body_check_of}
-use Rattle.analyze_state.specs.declared.SemaError as code-errors
-use Rattle.analyze_state.specs.declared.BodyCheck.{BodyCheck}
-use Rattle.analyze_state.specs.declared.BodyCheck.TheVariants as checked
-use Rattle.analyze_exprs.specs.Typed.{field_fits}
-use Rattle.analyze_exprs.proofs.ExprSteps.{read_as}
-use Rattle.analyze_exprs.proofs.Literals.{inits_from, literal_at, FieldAt, field_at, no_field}
+use Rattle.definitions.specs.Analyze.{Ty, known, Unknown, differs, field_type}
+use Rattle.ir.specs.Types.{as_type}
+use Rattle.ir.specs.declared.Name.{Name}
+use Rattle.ir.specs.declared.IrType.{IrType as CodeType}
+use Rattle.ir.specs.declared.IrType.TheVariants as code
+use Rattle.contract_lookup.specs.Answers.{second, type_in, field_type_named}
+use Rattle.analyze_walk.specs.Stops.{Checking, sema, refuse_if, access_struct, access}
+use Rattle.analyze_exprs.specs.Typed.{field_check}
 
--- THE FIRST FIELD, and then the rest
-first_then : (p : ℕ) → List Param → (n : ℕ) → Checking Done → Checking Ty → Checking Done
-first_then p sf n rest value = do
-  ty ← value
-  (_, expected) ← ok_or_else (field_type sf n) (sema p 8)
-  refuse_if (differs ty (known (from_str expected.ty))) (sema p 7)
-  rest
+-- THE TYPE OF A FIELD is what is wanted of it
+by_type : {A : Type 0} (o : Option (ℕ × Param)) (e : Refusal) (k : IrType → Checking A) → (ok_or_else (type_in o) e >>= k) ≡ (ok_or_else o e >>= λ (f : ℕ × Param). k (from_str f.1.ty))
+by_type none e k = refl
+by_type (some f) e k = refl
 
-first_then_lem : (p : ℕ) (sf : List Param) (n : ℕ) (rest : Checking Done) (value : Checking Ty) → first_then p sf n rest value ≡ field_fits p sf n value >> rest
-unfolding first_then
-first_then_lem p sf n rest (err x) = refl
-first_then_lem p sf n rest (ok ty) = found (field_type sf n)
-  where
-    found : (o : Option (ℕ × Param)) → (ok_or_else o (sema p 8) >>= λ f. refuse_if (differs ty (known (from_str f.1.ty))) (sema p 7) >> rest) ≡ (ok_or_else o (sema p 8) >>= λ f. refuse_if (differs ty (known (from_str f.1.ty))) (sema p 7)) >> rest
-    found none = refl
-    found (some f) = refl
+with_type : {A : Type 0} (fs : List Param) (n : ℕ) {v : Option IrType} (e : Refusal) (k : IrType → Checking A) → v ≡ field_type_named fs n → (ok_or_else v e >>= k) ≡ (ok_or_else (field_type fs n) e >>= λ (f : ℕ × Param). k (from_str f.1.ty))
+unfolding field_type_named
+with_type fs n e k h = ap (λ (o : Option IrType). ok_or_else o e >>= k) h ∙ by_type (field_type fs n) e k
 
--- THE LOOP: from `field` to `stop` stand the fields that are left, and they give what the literal of the struct n gives, which is R
-pub record Fields (s : List ℕ) (d : ℕ) (env : Env) (p : ℕ) (sf : List Param) (n : ℕ) (R : Checking Ty) (stop field : ℕ) : Type 0 where
-  pub left : ReadyAll Class.field_init s field stop d
-  pub is : check_fields (read_contract s) env p sf (inits_from s field stop) >> ok (known (IrType.Struct n)) ≡ R
+-- A FIELD OF A VALUE, by the value's type
+pub no_struct : (K : Contract) (p f : ℕ) (t : CodeType) → ((n : Name) → t ≡ code.Struct n → ⊥) → err (sema p 6) ≡ access K p f (known (as_type t))
+unfolding access
+no_struct K p f code.U64 h = refl
+no_struct K p f code.Bool h = refl
+no_struct K p f code.Field h = refl
+no_struct K p f (code.Struct n) h = absurd (h n refl)
+no_struct K p f code.Void h = refl
 
--- before the first
-module _ {s : List ℕ} {at d : ℕ} (r : Ready Class.expression s at d) (k : record_kind s at ≡ 35) (env : Env) {n : ℕ} (n-is : n ≡ le 2 s (at + 6)) where
-  -- a literal, given its struct
-  with_struct : FieldInits → Option (ℕ × Struct) → Checking Ty
-  with_struct fs o = do
-    (_, decl) ← ok_or_else o (sema at 9)
-    check_fields (read_contract s) env at decl.fields fs
-    ok (known (IrType.Struct (le 2 s (at + 6))))
+undeclared_in : (p f : ℕ) (o : Option (ℕ × Struct)) → none ≡ second o → ok Unknown ≡ access_struct p f o
+undeclared_in p f none h = refl
+undeclared_in p f (some d) h = absurd (cc)
 
-  whole : {o : Option (ℕ × Struct)} → struct_named (read_contract s) n ≡ o → with_struct (inits_from s (at + 8) (stop_of s at)) o ≡ check_expr (read_contract s) env (expr_at s at)
-  unfolding check_expr with_struct
-  whole h = read_as s at env (literal_at r k).is (ap (with_struct (inits_from s (at + 8) (stop_of s at))) (sym h ∙ ap (struct_named (read_contract s)) n-is))
+declared_in : (p f : ℕ) (o : Option (ℕ × Struct)) {decl : Struct} {v : Option IrType} → some decl ≡ second o → v ≡ field_type_named decl.fields f → (ok_or_else v (sema p 5) >>= λ t. ok (known t)) ≡ access_struct p f o
+declared_in p f none h q = absurd (cc)
+declared_in p f (some d) {decl} h q =
+    let e : decl ≡ d.1 = cc in
+    with_type d.1.fields f (sema p 5) (λ t. ok (known t)) (rw e at q)
 
-  pub undefined : struct_named (read_contract s) n ≡ none → err (sema at 9) ≡ check_expr (read_contract s) env (expr_at s at)
-  unfolding with_struct
-  undefined h = whole h
+module _ (K : Contract) (p f n : ℕ) where
+  pub undeclared : none ≡ second (struct_named K n) → ok Unknown ≡ access K p f (known (IrType.Struct n))
+  unfolding access
+  undeclared h = undeclared_in p f (struct_named K n) h
 
-  pub fields_start : {i : ℕ} {decl : Struct} {stop : ℕ} → struct_named (read_contract s) n ≡ some (i, decl) → stop ≡ stop_of s at → Fields s (d - 1) env at decl.fields n (check_expr (read_contract s) env (expr_at s at)) stop (at + 8)
-  unfolding with_struct
-  fields_start h q = rw (q, n-is) (record { left = (literal_at r k).fields; is = whole h })
+  pub declared : {decl : Struct} {v : Option IrType} → some decl ≡ second (struct_named K n) → v ≡ field_type_named decl.fields f → (ok_or_else v (sema p 5) >>= λ t. ok (known t)) ≡ access K p f (known (IrType.Struct n))
+  unfolding access
+  declared h q = declared_in p f (struct_named K n) h q
 
-module _ {s : List ℕ} {d : ℕ} {env : Env} {p : ℕ} {sf : List Param} {n : ℕ} {R : Checking Ty} {stop field : ℕ} (g : Fields s d env p sf n R stop field) where
-  -- what comes of the fields fs
-  abbrev gives : FieldInits → Checking Ty
-  gives fs = check_fields (read_contract s) env p sf fs >> ok (known (IrType.Struct n))
+-- A FIELD OF A LITERAL, by its value's type
+module _ (p : ℕ) (fs : List Param) (n : ℕ) (ty : Ty) where
+  fit : IrType → Checking Done
+  fit t = refuse_if (differs ty (known t)) (sema p 7)
 
-  -- there is none left
-  pub fields_end_lem : stop ≤ field → ok (known (IrType.Struct n)) ≡ R
-  unfolding check_expr
-  fields_end_lem h = ap gives (sym (no_field g.left h)) ∙ g.is
+  pub unknown_field : none ≡ field_type_named fs n → err (sema p 8) ≡ field_check p fs n ty
+  unfolding fit
+  unknown_field h = with_type fs n (sema p 8) fit h
 
-  -- one more
-  pub field_here : field < stop → FieldAt s field stop d
-  field_here h = field_at g.left h
-
-  -- it and the rest, given what came of it
-  given : Checking Done → Checking Ty
-  given r = r >> check_fields (read_contract s) env p sf (inits_from s (stop_of s field) stop) >> ok (known (IrType.Struct n))
-
-  opened : field < stop → given (field_fits p sf (le 2 s (field + 6)) (check_expr (read_contract s) env (expr_at s (field + 8)))) ≡ R
-  unfolding check_expr given first_then
-  opened h =
-      ap (λ (r : Checking Done). r >> ok (known (IrType.Struct n))) (sym (first_then_lem p sf (le 2 s (field + 6)) (check_fields (read_contract s) env p sf (inits_from s (stop_of s field) stop)) (check_expr (read_contract s) env (expr_at s (field + 8)))))
-      ∙ (ap gives (sym (field_here h).is) ∙ g.is)
-
-  module _ (h : field < stop) {m : ℕ} {value : Checking Ty} (m-is : m ≡ le 2 s (field + 6)) (value_is : value ≡ check_expr (read_contract s) env (expr_at s (field + 8))) where
-    came : {r : Checking Done} → r ≡ field_fits p sf m value → given r ≡ R
-    came w = ap given (w ∙ (ap (λ (m : ℕ). field_fits p sf m value) m-is ∙ ap (field_fits p sf (le 2 s (field + 6))) value_is)) ∙ opened h
-
-    -- it passed
-    pub field_passed : {c : BodyCheck} → body_check_of c ≡ field_fits p sf m value → c ≡ checked.Passed → {size : ℕ} → size ≡ le 4 s field → Fields s d env p sf n R stop (field + size)
-    unfolding given
-    field_passed w e q = rw q (record { left = (field_here h).more.rest; is = came (sym (ap body_check_of e) ∙ w) })
-
-    -- it is refused
-    pub field_refused : {c : BodyCheck} {x : code-errors.SemaError} → body_check_of c ≡ field_fits p sf m value → c ≡ checked.Failed x → err (error_of x) ≡ R
-    unfolding given
-    field_refused w e = came (sym (ap body_check_of e) ∙ w)
+  pub value_is : {t : IrType} {b : Bool} → some t ≡ field_type_named fs n → b ≡ differs ty (known t) → refuse_if b (sema p 7) ≡ field_check p fs n ty
+  unfolding fit
+  value_is h q = ap (λ (b : Bool). refuse_if b (sema p 7)) q ∙ with_type fs n (sema p 8) fit h

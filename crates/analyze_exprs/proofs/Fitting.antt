@@ -38,10 +38,6 @@ pub and_true : (a : Bool) → (a && true) ≡ a
 and_true true = refl
 and_true false = refl
 
-pub and_false : (a : Bool) → (a && false) ≡ false
-and_false true = refl
-and_false false = refl
-
 pub no_argument : (params : List IrType) → fitting params [] ≡ true
 unfolding fitting
 no_argument [] = refl

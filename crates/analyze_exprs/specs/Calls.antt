@@ -1,16 +1,16 @@
--- Calls: what is called, and whether the arguments so far fit. Untrusted: helper definitions. Assumes nothing: these are definitions.
-use Rattle.std.specs.Prelude.{ℕ, zero, suc, Bool, true, not, ◌&&◌, List, [], ◌∷◌, eqb, length}
-use Rattle.std.proofs.Math.Option.{Option, none, some}
+-- Calls: what is called, and whether the arguments so far fit. Assumes nothing: these are definitions.
+use Rattle.std.specs.Prelude.{ℕ, zero, suc, Bool, true, not, ◌&&◌, List, [], ◌∷◌, Option, eqb, length}
+use Rattle.std.proofs.Math.Option as maths
 use Rattle.definitions.specs.Result.{ok, ◌>>=◌, ◌>>◌, ok_or_else, check}
 use Rattle.definitions.specs.Analyze as analyze
-use Rattle.definitions.specs.Analyze.{known, Unknown, differs, Signature, declared}
-use Rattle.definitions.specs.ContractSheet.{function_of}
-use Rattle.definitions.specs.Grammar.{Class}
+use Rattle.definitions.specs.Analyze.{known, Unknown, differs, Signature}
 use Rattle.definitions.specs.Ir.{IrType}
-use Rattle.contract_nodes.specs.Ready.{Ready, tree_at}
+use Rattle.definitions.specs.Sema.{return_type}
+use Rattle.ir.specs.Answers.{option_of}
+use Rattle.contract_nodes.specs.Nodes.{function_in}
 use Rattle.analyze_walk.specs.Stops.{Checking, sema}
-use Rattle.analyze_exprs.specs.declared.Callee.{Callee}
-use Rattle.analyze_exprs.specs.declared.Callee.TheVariants as callee
+use Rattle.analyze_exprs.specs.declared.calls.Callee.{Callee}
+use Rattle.analyze_exprs.specs.declared.calls.Callee.TheVariants as callee
 
 -- so many parameters of type U64
 abbrev pub u64s : ℕ → List IrType
@@ -18,16 +18,12 @@ u64s zero = []
 u64s (suc n) = IrType.U64 ∷ u64s n
 
 -- the signature of what is called
-abbrev pub callee_in : List ℕ → Callee → Option Signature
-callee_in s (callee.BuiltIn n) = some (u64s n, IrType.U64)
-callee_in s (callee.Declared p) = declared (some (0, function_of (tree_at s p)))
-callee_in s callee.Undefined = none
+abbrev pub signature_in : Callee → Signature
+signature_in (callee.BuiltIn n) = (u64s n, IrType.U64)
+signature_in (callee.Declared f) = (analyze.param_types (function_in f).params, return_type (function_in f).return_type)
 
--- a function that was found stands at its place
-abbrev pub CalleeStands : List ℕ → Callee → Type 0
-CalleeStands s (callee.BuiltIn n) = Unit {0}
-CalleeStands s (callee.Declared p) = Ready Class.function s p 39
-CalleeStands s callee.Undefined = Unit {0}
+abbrev pub callee_in : Option Callee → maths.Option Signature
+callee_in c = option_of signature_in c
 
 -- the type of the i-th parameter; Unknown, which differs from nothing, if there is none
 abbrev pub nth_ty : List IrType → ℕ → analyze.Ty
@@ -35,9 +31,9 @@ nth_ty [] i = Unknown
 nth_ty (t ∷ ts) zero = known t
 nth_ty (t ∷ ts) (suc i) = nth_ty ts i
 
-abbrev pub param_ty : Option Signature → ℕ → analyze.Ty
-param_ty none i = Unknown
-param_ty (some sig) i = nth_ty sig.0 i
+abbrev pub param_ty : maths.Option Signature → ℕ → analyze.Ty
+param_ty maths.none i = Unknown
+param_ty (maths.some sig) i = nth_ty sig.0 i
 
 -- no argument's type differs from its parameter's
 unfoldable pub fitting : List IrType → List analyze.Ty → Bool
@@ -46,9 +42,9 @@ fitting (exp ∷ exps) [] = true
 fitting (exp ∷ exps) (act ∷ acts) = not (differs (known exp) act) && fitting exps acts
 
 -- the same of what is called; true if that is nothing
-abbrev pub params_fitting : Option Signature → List analyze.Ty → Bool
-params_fitting none acts = true
-params_fitting (some sig) acts = fitting sig.0 acts
+abbrev pub params_fitting : maths.Option Signature → List analyze.Ty → Bool
+params_fitting maths.none acts = true
+params_fitting (maths.some sig) acts = fitting sig.0 acts
 
 -- a call of n arguments, which fit or do not: with so many parameters and a return type, and of what is called
 abbrev pub finished_with : (p many n : ℕ) → Bool → IrType → Checking analyze.Ty
@@ -57,7 +53,7 @@ finished_with p many n fits ret = do
   check fits (sema p 11)
   ok (known ret)
 
-abbrev pub finished : (p : ℕ) → Option Signature → (n : ℕ) → Bool → Checking analyze.Ty
+abbrev pub finished : (p : ℕ) → maths.Option Signature → (n : ℕ) → Bool → Checking analyze.Ty
 finished p sig n fits = do
   (params, ret) ← ok_or_else sig (sema p 12)
   finished_with p (length params) n fits ret

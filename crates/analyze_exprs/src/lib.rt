@@ -2,166 +2,98 @@
 // the first error.
 #![tactic(auto)]
 
-ghost use Rattle.std.specs.Prelude.{◌≡◌, ◌+◌, ◌≤◌, length};
-ghost use Rattle.definitions.specs.Fields.{le};
-ghost use Rattle.definitions.specs.Grammar.{Class};
-ghost use Rattle.sheet.specs.Passed.{record_kind};
-ghost use Rattle.contract_nodes.specs.Ready.{Ready};
-ghost use Rattle.analyze_state.specs.Scene.{Scene};
-ghost use Rattle.analyze_exprs.specs.Typed.{ExprTyped};
+ghost use Rattle.std.specs.Prelude.{◌≡◌};
+ghost use Rattle.ir.specs.Answers.{result_of};
+ghost use Rattle.contract_nodes.specs.Nodes.{expr_in, exprs_in, fields_in};
+ghost use Rattle.analyze_env.specs.Types.{as_ty};
+ghost use Rattle.analyze_walk.specs.Stops.{check_expr};
+ghost use Rattle.analyze_state.specs.Errors.{error_of};
+ghost use Rattle.analyze_state.specs.State.{contract_of, OfSheet};
+ghost use Rattle.analyze_exprs.specs.Typed.{check_literal, check_call};
 
-use analyze_env::Ty;
-use analyze_state::{Analyzer, BodyCheck, SemaError};
-use contract_lookup::name_at;
-use contract_lookup::places::last_place;
-use format::{KIND, contract, kinds};
+use analyze_env::{Env, Ty, differs};
+use analyze_state::{Analyzer, SemaError};
+use contract_nodes::{Expr, ExprNode, Exprs, FieldInits};
 use ir::{IrType, Name};
-use reader::{read, read_u16};
 
 mod calls; // what is called, and whether the arguments fit
-mod leaves; // expressions without expressions in them, and what is done with types
+mod fields; // the fields of a value and of a literal
 
-// What an expression came to: its type, or an error.
-#[derive(Clone, Copy)]
-pub enum Typed {
-    Type(Ty),
-    Refused(SemaError),
-}
-
-// What a name stands for in a call: a built-in function of so many parameters of type U64, the function at a place, or nothing.
-#[derive(Clone, Copy)]
-enum Callee {
-    BuiltIn(usize),
-    Declared(usize),
-    Undefined,
-}
-
-// The expression at a place, with the names that are known.
+// The type of an expression, with the names that are known.
 #[cycle(exprs)]
-pub fn analyze_expr(
-    s: &[u8],
-    at: usize,
-    depth: usize,
-    entries: &[u64],
-    heads: &[u16],
-    structs: &[u32],
-    functions: &[u32],
-    ctx: Analyzer,
-) -> Typed
-    requires { Ready Class.expression s.now at depth × Scene s.now entries.now heads.now structs.now functions.now ctx }
-    ensures { ExprTyped s.now at entries.now ctx result }
+pub fn analyze_expr(a: &Analyzer, env: &Env, e: Expr) -> Result<Ty, SemaError>
+    requires { OfSheet a.now e.contract }
+    ensures { result_of error_of as_ty result ≡ check_expr (contract_of a.now) env.now.names (expr_in e.entry) }
 {
-    let kind = read(s, at + KIND, 2);
-    let first = at + contract::AFTER_NAME;
-    match kind {
-        kinds::INT => Typed::Type(Ty::Known(IrType::U64)),
-        kinds::IDENT => leaves::ident(at, name_at(s, at), entries, heads, ctx.names),
-        kinds::STORAGE_READ => Typed::Type(Ty::Known(IrType::U64)),
-        kinds::MAPPING_READ => {
-            let key = analyze_expr(s, first, depth - 1, entries, heads, structs, functions, ctx);
-            leaves::mapping(key)
+    match e.node() {
+        ExprNode::Int(_) => Ok(Ty::Known(IrType::U64)),
+        ExprNode::Ident(name) => env.get(name).ok_or(SemaError::UndefinedIdentifier(e.at)),
+        ExprNode::StorageRead(_) => Ok(Ty::Known(IrType::U64)),
+        ExprNode::MappingRead(_, key) => {
+            analyze_expr(a, env, key)?;
+            Ok(Ty::Known(IrType::U64))
         }
-        kinds::FIELD_ACCESS => {
-            let base = analyze_expr(s, first, depth - 1, entries, heads, structs, functions, ctx);
-            leaves::access(s, at, name_at(s, at), base, structs, ctx.structs)
+        ExprNode::FieldAccess(field, base) => {
+            let ty = analyze_expr(a, env, base)?;
+            fields::access(a, e.at, field, ty)
         }
-        kinds::STRUCT_LITERAL => {
-            analyze_literal(s, at, depth, entries, heads, structs, functions, ctx)
-        }
-        kinds::BINARY => {
-            let left = analyze_expr(s, first, depth - 1, entries, heads, structs, functions, ctx);
-            match left {
-                Typed::Type(l) => {
-                    let next = first + read(s, first, 4);
-                    let right = analyze_expr(
-                        s,
-                        next,
-                        depth - 1,
-                        entries,
-                        heads,
-                        structs,
-                        functions,
-                        ctx,
-                    );
-                    leaves::binary(at, l, right)
-                }
-                Typed::Refused(e) => Typed::Refused(e),
+        ExprNode::StructLiteral(name, inits) => analyze_literal(a, env, e.at, name, inits),
+        ExprNode::Binary(_, left, right) => {
+            let l = analyze_expr(a, env, left)?;
+            let r = analyze_expr(a, env, right)?;
+            if differs(l, r) {
+                return Err(SemaError::BinaryMismatch(e.at));
             }
+            Ok(l)
         }
-        _ => analyze_call(s, at, depth, entries, heads, structs, functions, ctx),
+        ExprNode::Call(name, args) => analyze_call(a, env, e.at, name, args),
     }
 }
 
-// A struct literal: its struct, then its fields in order. Each field's value stands behind the field's name.
+// A struct literal at a place: its struct, then its fields in order.
 #[cycle(exprs)]
 fn analyze_literal(
-    s: &[u8],
+    a: &Analyzer,
+    env: &Env,
     at: usize,
-    depth: usize,
-    entries: &[u64],
-    heads: &[u16],
-    structs: &[u32],
-    functions: &[u32],
-    ctx: Analyzer,
-) -> Typed
-    requires ready { Ready Class.expression s.now at depth × Scene s.now entries.now heads.now structs.now functions.now ctx }
-    requires at_value { record_kind s.now at ≡ 35 }
-    ensures { ExprTyped s.now at entries.now ctx result }
+    name: Name,
+    inits: FieldInits,
+) -> Result<Ty, SemaError>
+    requires { OfSheet a.now inits.contract }
+    ensures { result_of error_of as_ty result ≡ check_literal (contract_of a.now) env.now.names at name.0 (fields_in inits.entry) }
 {
-    let name = name_at(s, at);
-    let of = last_place(s, structs, ctx.structs, name);
-    if of == 0 {
-        return Typed::Refused(SemaError::UndefinedStruct(at));
+    let Some(of) = a.structs.named(name) else {
+        return Err(SemaError::UndefinedStruct(at));
+    };
+    let mut inits = inits;
+    while let Some(init) = inits.next() {
+        let ty = analyze_expr(a, env, init.value)?;
+        fields::check_field(of, at, init.name, ty)?;
     }
-    let stop = at + read(s, at, 4);
-    let mut field = at + contract::AFTER_NAME;
-    while field < stop {
-        let value = field + contract::AFTER_NAME;
-        let typed = analyze_expr(s, value, depth - 2, entries, heads, structs, functions, ctx);
-        match leaves::check_field(s, at, of, name_at(s, field), typed) {
-            BodyCheck::Passed => {}
-            BodyCheck::Failed(e) => {
-                return Typed::Refused(e);
-            }
-        }
-        field += read(s, field, 4);
-    }
-    Typed::Type(Ty::Known(IrType::Struct(name)))
+    Ok(Ty::Known(IrType::Struct(name)))
 }
 
-// A call: its arguments in order, then what is called.
+// A call at a place: its arguments in order, then what is called. For the Rust's list of the arguments' types stand their number and whether
+// each fits (a rule of the project: no heap).
 #[cycle(exprs)]
 fn analyze_call(
-    s: &[u8],
+    a: &Analyzer,
+    env: &Env,
     at: usize,
-    depth: usize,
-    entries: &[u64],
-    heads: &[u16],
-    structs: &[u32],
-    functions: &[u32],
-    ctx: Analyzer,
-) -> Typed
-    requires ready { Ready Class.expression s.now at depth × Scene s.now entries.now heads.now structs.now functions.now ctx }
-    requires at_value { record_kind s.now at ≡ 37 }
-    ensures { ExprTyped s.now at entries.now ctx result }
+    name: Name,
+    args: Exprs,
+) -> Result<Ty, SemaError>
+    requires { OfSheet a.now args.contract }
+    ensures { result_of error_of as_ty result ≡ check_call (contract_of a.now) env.now.names at name.0 (exprs_in args.entry) }
 {
-    let callee = calls::callee(s, name_at(s, at), functions, ctx.functions);
-    let stop = at + read(s, at, 4);
-    let mut arg = at + contract::AFTER_NAME;
+    let callee = calls::callee_named(a, name);
+    let mut args = args;
     let mut n = 0;
     let mut fits = true;
-    while arg < stop {
-        let typed = analyze_expr(s, arg, depth - 1, entries, heads, structs, functions, ctx);
-        match typed {
-            Typed::Type(t) => {
-                fits = calls::still_fits(s, callee, n, t, fits);
-                n += 1;
-                arg += read(s, arg, 4);
-            }
-            Typed::Refused(e) => {
-                return Typed::Refused(e);
-            }
-        }
+    while let Some(arg) = args.next() {
+        let ty = analyze_expr(a, env, arg)?;
+        fits = fits && !differs(calls::param_ty(callee, n), ty);
+        n += 1;
     }
-    calls::finish_call(s, at, callee, n, fits)
+    calls::finish_call(at, callee, n, fits)
 }

@@ -1,134 +1,87 @@
-// The body check of statements that have no statements in them, and of the bounds of a For.
+// The body check of what is in a statement besides statements: its expressions, and what is asked of their types. No name becomes known.
 #![tactic(auto)]
 
-ghost use Rattle.std.specs.Prelude.{◌≡◌};
-ghost use Rattle.definitions.specs.Grammar.{Class};
-ghost use Rattle.sheet.specs.Passed.{record_kind, stop_of};
-ghost use Rattle.contract_nodes.specs.Ready.{Ready};
-ghost use Rattle.analyze_state.specs.Scene.{Scene, body_check_of};
-ghost use Rattle.analyze_simple.specs.Checked.{StmtHere, RoomForAll, Room, PlainKind, after_check, bounds_on, StmtChecked};
+ghost use Rattle.std.specs.Prelude.{◌≡◌, IfSome};
+ghost use Rattle.definitions.specs.Ast.{Stmt};
+ghost use Rattle.contract_nodes.specs.Nodes.{expr_in, exprs_in};
+ghost use Rattle.analyze_walk.specs.Stops.{check_stmt};
+ghost use Rattle.analyze_state.specs.State.{contract_of, ret_of, OfSheet, env_after};
+ghost use Rattle.analyze_simple.specs.Checked.{returned, value_checked, pair_checked, args_checked};
 
-use analyze_env::insert;
-use analyze_exprs::{Typed, analyze_expr};
-use analyze_state::{Analyzer, BodyCheck, SemaError};
-use contract_lookup::name_at;
-use format::{KIND, contract, kinds};
-use reader::read;
+use analyze_env::{Env, Ty, differs};
+use analyze_exprs::analyze_expr;
+use analyze_state::{Analyzer, SemaError};
+use contract_nodes::{Expr, Exprs};
+use ir::{IrType, Name};
 
-mod plain; // statements that declare no name and have no statements in them
-
-// After a statement, or statements: how many names are known, or an error.
-#[derive(Clone, Copy)]
-pub enum KnownNames {
-    Next(usize),
-    Refused(SemaError),
-}
-
-// A statement that declares no name.
-fn after_plain(checked: BodyCheck, names: usize) -> KnownNames
-    ensures { result ≡ after_check checked names }
+// An expression whose type is not asked: Constrain, StorageWrite and an expression as a statement.
+pub fn analyze_value(a: &Analyzer, env: &Env, value: Expr) -> Result<(), SemaError>
+    requires { OfSheet a.now value.contract }
+    ensures { env_after env.now result ≡ value_checked (contract_of a.now) env.now.names (expr_in value.entry) }
 {
-    match checked {
-        BodyCheck::Passed => KnownNames::Next(names),
-        BodyCheck::Failed(e) => KnownNames::Refused(e),
-    }
+    analyze_expr(a, env, value)?;
+    Ok(())
 }
 
-// Let: the expression, then its name is known.
-pub fn analyze_let(
-    s: &[u8],
+// Two of them: the key and the value of a MappingWrite, the bounds of a For.
+pub fn analyze_pair(a: &Analyzer, env: &Env, first: Expr, second: Expr) -> Result<(), SemaError>
+    requires { OfSheet a.now first.contract × OfSheet a.now second.contract }
+    ensures { env_after env.now result ≡ pair_checked (contract_of a.now) env.now.names (expr_in first.entry) (expr_in second.entry) }
+{
+    analyze_expr(a, env, first)?;
+    analyze_expr(a, env, second)?;
+    Ok(())
+}
+
+// Emit: the arguments in order.
+pub fn analyze_args(a: &Analyzer, env: &Env, args: Exprs) -> Result<(), SemaError>
+    requires { OfSheet a.now args.contract }
+    ensures { env_after env.now result ≡ args_checked (contract_of a.now) env.now.names (exprs_in args.entry) }
+{
+    let mut args = args;
+    while let Some(arg) = args.next() {
+        analyze_expr(a, env, arg)?;
+    }
+    Ok(())
+}
+
+// Assign, at a place: the name, then the expression.
+pub fn analyze_assign(
+    a: &Analyzer,
+    env: &Env,
     at: usize,
-    depth: usize,
-    entries: &mut [u64],
-    heads: &mut [u16],
-    structs: &[u32],
-    functions: &[u32],
-    ctx: Analyzer,
-) -> KnownNames
-    requires stmt_here { StmtHere s.now at depth × (Scene s.now entries.old heads.old structs.now functions.now ctx × (record_kind s.now at ≡ 10)) }
-    requires room_for_all { RoomForAll s.now entries.old × Room ctx.names at }
-    ensures { StmtChecked s.now at entries.old heads.old ctx entries.new heads.new result }
+    name: Name,
+    value: Expr,
+) -> Result<(), SemaError>
+    requires { OfSheet a.now value.contract }
+    ensures { env_after env.now result ≡ check_stmt (contract_of a.now) (ret_of a.now) (Stmt.Assign at name.0 (expr_in value.entry)) env.now.names }
 {
-    let value = at + contract::AFTER_NAME;
-    let typed = analyze_expr(s, value, depth - 1, entries, heads, structs, functions, ctx);
-    match typed {
-        Typed::Type(t) => KnownNames::Next(insert(entries, heads, ctx.names, name_at(s, at), t)),
-        Typed::Refused(e) => KnownNames::Refused(e),
+    let Some(expected) = env.get(name) else {
+        return Err(SemaError::UndefinedVariable(at));
+    };
+    let ty = analyze_expr(a, env, value)?;
+    if differs(ty, expected) {
+        return Err(SemaError::AssignMismatch(at));
     }
+    Ok(())
 }
 
-// A statement that is none of Let, If, While and For: no name becomes known.
-pub fn analyze_plain(
-    s: &[u8],
+// Return, at a place, perhaps of a value; Void without one.
+pub fn analyze_return(
+    a: &Analyzer,
+    env: &Env,
     at: usize,
-    depth: usize,
-    entries: &[u64],
-    heads: &[u16],
-    structs: &[u32],
-    functions: &[u32],
-    ctx: Analyzer,
-) -> KnownNames
-    requires stmt_here { StmtHere s.now at depth × (Scene s.now entries.now heads.now structs.now functions.now ctx × PlainKind s.now at) }
-    requires room { Room ctx.names at }
-    ensures { StmtChecked s.now at entries.now heads.now ctx entries.now heads.now result }
+    value: Option<Expr>,
+) -> Result<(), SemaError>
+    requires { IfSome value (λ e. OfSheet a.now e.contract) }
+    ensures { env_after env.now result ≡ check_stmt (contract_of a.now) (ret_of a.now) (Stmt.Return at (returned value.entry)) env.now.names }
 {
-    let names = ctx.names;
-    let kind = read(s, at + KIND, 2);
-    match kind {
-        kinds::CONSTRAIN => after_plain(
-            plain::analyze_constrain(s, at, depth, entries, heads, structs, functions, ctx),
-            names,
-        ),
-        kinds::ASSIGN => after_plain(
-            plain::analyze_assign(s, at, depth, entries, heads, structs, functions, ctx),
-            names,
-        ),
-        kinds::STORAGE_WRITE => after_plain(
-            plain::analyze_storage_write(s, at, depth, entries, heads, structs, functions, ctx),
-            names,
-        ),
-        kinds::MAPPING_WRITE => after_plain(
-            plain::analyze_mapping_write(s, at, depth, entries, heads, structs, functions, ctx),
-            names,
-        ),
-        kinds::RETURN_STMT => after_plain(
-            plain::analyze_return(s, at, depth, entries, heads, structs, functions, ctx),
-            names,
-        ),
-        kinds::EMIT_STMT => after_plain(
-            plain::analyze_emit(s, at, depth, entries, heads, structs, functions, ctx),
-            names,
-        ),
-        _ => after_plain(
-            plain::analyze_expr_stmt(s, at, depth, entries, heads, structs, functions, ctx),
-            names,
-        ),
+    let ty = match value {
+        Some(e) => analyze_expr(a, env, e)?,
+        None => Ty::Known(IrType::Void),
+    };
+    if differs(ty, Ty::Known(a.ret)) {
+        return Err(SemaError::ReturnMismatch(at));
     }
-}
-
-// The bounds of a For: the first at a place, the second behind it.
-pub fn bounds(
-    s: &[u8],
-    at: usize,
-    depth: usize,
-    entries: &[u64],
-    heads: &[u16],
-    structs: &[u32],
-    functions: &[u32],
-    ctx: Analyzer,
-) -> BodyCheck
-    requires ready { Ready Class.expression s.now at depth × Ready Class.expression s.now (stop_of s.now at) depth }
-    requires scene { Scene s.now entries.now heads.now structs.now functions.now ctx }
-    ensures { body_check_of result ≡ bounds_on s.now at entries.now ctx }
-{
-    let first = analyze_expr(s, at, depth, entries, heads, structs, functions, ctx);
-    match first {
-        Typed::Type(_) => {
-            let behind = at + read(s, at, 4);
-            plain::typed_at_all(analyze_expr(
-                s, behind, depth, entries, heads, structs, functions, ctx,
-            ))
-        }
-        Typed::Refused(e) => BodyCheck::Failed(e),
-    }
+    Ok(())
 }

@@ -1,1 +1,2 @@
-mod StmtSteps
+pub mod Growing
+pub mod Steps

@@ -1,1 +1,1 @@
-pub mod Stmts
+pub mod Room

@@ -2,36 +2,26 @@
 // No contract of the standard library says which bytes a read gave or a write took, so none here does.
 #![tactic(auto)]
 
+ghost use Rattle.std.specs.Prelude.{IfSome};
 ghost use Rattle.io.specs.Counts.{IsPrefixLen};
-ghost use Rattle.console.specs.Input.{InputFits};
 
 use std::env::{Env, FillError};
 use std::io::{Error, ErrorKind, Read, Write};
 
-// What a read of standard input came to.
-#[derive(Clone, Copy)]
-pub enum Input {
-    // This many bytes were put at the start of the buffer. They are fewer than the buffer holds only where the input ended.
-    Read(usize),
-    // A read failed, which has been said.
-    Failed,
-}
-
-// Reads standard input until `buf` is full or the input ends.
-pub fn read(rt: &HostRuntime, buf: &mut [u8]) -> Input
-    ensures { InputFits result buf.new }
+// Reads standard input until `buf` is full or the input ends, and gives how many bytes it put at the start of `buf`: fewer than the buffer
+// holds only where the input ended. There is no answer where a read failed, which has been said.
+pub fn read(rt: &HostRuntime, buf: &mut [u8]) -> Option<usize>
+    ensures { IfSome result (λ n. IsPrefixLen n buf.new) }
 {
     let mut done = 0;
     while done < buf.len() {
-        let Input::Read(n) = read_some(rt, &mut buf[done..]) else {
-            return Input::Failed;
-        };
+        let n = read_some(rt, &mut buf[done..])?;
         if n == 0 {
-            return Input::Read(done);
+            return Some(done);
         }
         done += n;
     }
-    Input::Read(done)
+    Some(done)
 }
 
 // A proved loop has to end, and nothing says that a read is not interrupted again and again. So this many interruptions in a row are a
@@ -39,21 +29,20 @@ pub fn read(rt: &HostRuntime, buf: &mut [u8]) -> Input
 const INTERRUPTIONS: u32 = 1000000;
 
 // One read, which answers 0 at the input's end. Where a signal interrupts it before a byte came, it is begun again.
-fn read_some(rt: &HostRuntime, buf: &mut [u8]) -> Input
-    ensures { InputFits result buf.new }
+fn read_some(rt: &HostRuntime, buf: &mut [u8]) -> Option<usize>
+    ensures { IfSome result (λ n. IsPrefixLen n buf.new) }
 {
-    let mut left = INTERRUPTIONS;
-    loop {
-        let error = match rt.stdin().read(buf) {
-            Ok(n) => return Input::Read(n),
-            Err(error) => error,
-        };
-        left -= 1;
-        if left == 0 || error.kind() != ErrorKind::Interrupted {
-            fail(rt, b"standard input", error);
-            return Input::Failed;
+    for left in (0..INTERRUPTIONS).rev() {
+        match rt.stdin().read(buf) {
+            Ok(n) => return Some(n),
+            Err(error) if 0 < left && error.kind() == ErrorKind::Interrupted => {}
+            Err(error) => {
+                fail(rt, b"standard input", error);
+                return None;
+            }
         }
     }
+    None
 }
 
 // Writes a line.
@@ -76,12 +65,9 @@ pub fn has_args(rt: &HostRuntime, count: usize, usage: &[u8]) -> bool {
 
 // How many arguments there are behind the program's own name, which is the first, and which whoever starts it may leave out.
 fn arg_count(rt: &HostRuntime) -> usize {
-    for i in 0..usize::MAX {
-        if !is_given(rt, i + 1) {
-            return i;
-        }
-    }
-    usize::MAX
+    (0..usize::MAX)
+        .find(|i| !is_given(rt, i + 1))
+        .unwrap_or(usize::MAX)
 }
 
 // An argument that is too long for the buffer is there too.
@@ -110,12 +96,9 @@ fn put_error(error: Error, text: &mut [u8; 128]) {
 fn words_len(text: &[u8]) -> usize
     ensures { IsPrefixLen result text.now }
 {
-    for i in 0..text.len() {
-        if text[i] == 0 || text[i..].starts_with(b" (os error ") {
-            return i;
-        }
-    }
-    text.len()
+    (0..text.len())
+        .find(|&i| text[i] == 0 || text[i..].starts_with(b" (os error "))
+        .unwrap_or(text.len())
 }
 
 // Where standard error takes nothing, there is nowhere to say so.

@@ -16,6 +16,7 @@ use Rattle.definitions.specs.ContractSheet.{struct_of}
 use Rattle.definitions.proofs.Results.{first_below}
 use Rattle.sheet.specs.Passed.{stop_of}
 use Rattle.contract_nodes.specs.Ready.{Ready, tree_at, params_from}
+use Rattle.contract_nodes.proofs.Steps.{params_length}
 use Rattle.contract_nodes.proofs.Tops.{StructAt, struct_at}
 
 abbrev name_of : Param → ℕ
@@ -77,13 +78,8 @@ module _ {s : List ℕ} {at n stop field position : ℕ} (S : Seeking s at n sto
     }
 
 -- a position is below 64
-params_length : (m : ℕ) (s : List ℕ) (at : ℕ) → length (params_from s at m) ≡ m
-unfolding params_from
-params_length zero s at = refl
-params_length (suc m) s at = ap suc (params_length m s (at + 4))
-
 pub position_low : {s : List ℕ} {at d i : ℕ} (n : ℕ) → Ready Class.struct s at d → some i ≡ field_position (struct_of (tree_at s at)).fields n → i < 64
 position_low {s} {at} {d} {i} n R e =
     let m : ℕ = (struct_at R).0 in
     let S : StructAt s at m = (struct_at R).1 in
-    omega (arith, first_below name_of 0 (struct_of (tree_at s at)).fields n i (sym e), ap length S.fields, params_length m s (at + 8), S.few)
+    omega (arith, first_below name_of 0 (struct_of (tree_at s at)).fields n i (sym e), ap length S.fields, params_length s (at + 8) m, S.few)

@@ -4,7 +4,7 @@ use mathlib.Core.Path.{◌≡◌, refl, ap, sym, ◌∙◌, subst}
 use mathlib.Core.Bool.{Bool, true, false}
 use mathlib.Core.List.{List, [], ◌∷◌, map}
 use mathlib.Core.Option.{Option, none, some}
-use Prim.Native.Nat.{ℕ, suc, ◌+◌, ◌*◌, ◌/◌, ◌%◌, ◌≤◌, ◌<◌}
+use Prim.Native.Nat.{ℕ, suc, ◌+◌, ◌≤◌, ◌<◌}
 use native.Mathlib.Numerals.{add-one}
 use native.Mathlib.Omega.{arith}
 use lib.Dec.{leb, eqb}
@@ -13,7 +13,7 @@ use borrow.Author.Tests.{eq-eqb, ne_eqb}
 use Rattle.definitions.specs.Fields.{le}
 use Rattle.definitions.specs.Names.{or_this, last_named}
 use Rattle.definitions.specs.Records.{pick, Tree, Trees, tnil, tcons, read_records, kind_in, gather}
-use Rattle.definitions.proofs.Results.{by_test, some_none, last_below}
+use Rattle.definitions.proofs.Results.{some_none, last_below}
 use Rattle.definitions.proofs.Sheets.Passed.{read_end}
 use Rattle.definitions.proofs.Sheets.Steps.{low}
 use Rattle.sheet.specs.Passed.{record_kind, stop_of}
@@ -22,9 +22,18 @@ use Rattle.sheet.specs.Passed.{ContractPassed}
 use Rattle.definitions.proofs.Contracts.Limits.{TopKind, most_of, gather_here, gather_past}
 use Rattle.contract_nodes.proofs.Order.{none_after}
 use Rattle.contract_nodes.proofs.Tops.{Tops, Top, next_top, ContractAt, contract_at, at_most}
-use Rattle.contract_lookup.specs.declared.Found.{Found}
-use Rattle.contract_lookup.specs.declared.Found.TheVariants as found
-use Rattle.contract_lookup.specs.Answers.{found_in, found_of, placed_at, or_earlier, StandsAt, tree_name, records_of, last_of}
+use Rattle.std.specs.Prelude.{Option as Maybe, None, Some}
+use Rattle.contract_nodes.proofs.Standing.{stands}
+use Rattle.contract_lookup.specs.declared.symbols.Found.{Found}
+use Rattle.contract_lookup.specs.Answers.{found_in, StandsAt, tree_name, records_of, last_of}
+
+abbrev pub at_place : (position at : ℕ) → Maybe Found
+at_place i p = Some (record { position = i; at = p })
+
+-- what a later record gave, or else what the earlier ones gave
+abbrev pub or_earlier : Maybe Found → Maybe Found → Maybe Found
+or_earlier (Some f) e = Some f
+or_earlier None e = e
 
 -- the records of a kind from a place on
 abbrev pub these : List ℕ → (kind at : ℕ) → List Tree
@@ -52,13 +61,13 @@ or_none (some a) = refl
 or_none none = refl
 
 -- `position` records of the kind came before `at`, and the last of them that has the name is f
-pub record Walking (s : List ℕ) (kind n : ℕ) (f : Found) (position at : ℕ) : Type 0 where
+pub record Walking (s : List ℕ) (kind n : ℕ) (f : Maybe Found) (position at : ℕ) : Type 0 where
   pub tops : Tops s at
   pub low : position + 8 ≤ at
   pub is : or (last_named tree_name position (these s kind at) n) (found_in s f) ≡ last_of s kind n
   pub placed : StandsAt s kind f
 
-pub begun : (s : List ℕ) (kind n : ℕ) → ContractPassed s → Walking s kind n found.Missing 0 8
+pub begun : (s : List ℕ) (kind n : ℕ) → ContractPassed s → Walking s kind n None 0 8
 begun s kind n C =
     let D : ContractAt s = contract_at C in
     record {
@@ -68,37 +77,37 @@ begun s kind n C =
       placed = tt;
     }
 
-none_left : {s : List ℕ} {kind n position at : ℕ} {f : Found} → Walking s kind n f position at → these s kind at ≡ [] → (found_in s f ≡ last_of s kind n) × StandsAt s kind f
+none_left : {s : List ℕ} {kind n position at : ℕ} {f : Maybe Found} → Walking s kind n f position at → these s kind at ≡ [] → (found_in s f ≡ last_of s kind n) × StandsAt s kind f
 none_left {s} {kind} {n} {position} {at} {f} W e = (sym (ap (λ (ts : List Tree). or (last_named tree_name position ts n) (found_in s f)) e) ∙ W.is, W.placed)
 
-pub walked : {s : List ℕ} {kind n position at : ℕ} {f : Found} → Walking s kind n f position at → length s ≤ at
+pub walked : {s : List ℕ} {kind n position at : ℕ} {f : Maybe Found} → Walking s kind n f position at → length s ≤ at
     → (found_in s f ≡ last_of s kind n) × StandsAt s kind f
 walked {kind = kind} W h = none_left W (these_end kind W.tops h)
 
 -- a record of a higher kind: none of the kind comes after it
-pub stopped : {s : List ℕ} {kind n position at : ℕ} {f : Found} → Walking s kind n f position at → at < length s → kind < record_kind s at
+pub stopped : {s : List ℕ} {kind n position at : ℕ} {f : Maybe Found} → Walking s kind n f position at → at < length s → kind < record_kind s at
     → (found_in s f ≡ last_of s kind n) × StandsAt s kind f
 stopped {s} {kind} W l h = none_left W (none_after s kind (λ (t : Tree). t) W.tops l h)
 
-pub top_at : {s : List ℕ} {kind n position at : ℕ} {f : Found} (W : Walking s kind n f position at) → at < length s → Top s at W.tops
+pub top_at : {s : List ℕ} {kind n position at : ℕ} {f : Maybe Found} (W : Walking s kind n f position at) → at < length s → Top s at W.tops
 top_at W l = next_top W.tops l
 
 -- the record at `at` has the name, or is nothing
-abbrev pub ThisIs : List ℕ → (n position at : ℕ) → Found → Type 0
+abbrev pub ThisIs : List ℕ → (n position at : ℕ) → Maybe Found → Type 0
 ThisIs s n position at this = found_in s this ≡ pick (eqb (le 2 s (at + 6)) n) (some (position, tree_at s at)) none
 
-later_first : (s : List ℕ) (o : Option (ℕ × Tree)) (b : Bool) (x : ℕ × Tree) (this f : Found) → found_in s this ≡ pick b (some x) none → or o (found_in s (or_earlier this f)) ≡ or (or_this o b x) (found_in s f)
+later_first : (s : List ℕ) (o : Option (ℕ × Tree)) (b : Bool) (x : ℕ × Tree) (this f : Maybe Found) → found_in s this ≡ pick b (some x) none → or o (found_in s (or_earlier this f)) ≡ or (or_this o b x) (found_in s f)
 later_first s (some y) b x this f e = refl
-later_first s none true x (found.At i p) f e = e
-later_first s none true x found.Missing f e = absurd (some_none x (sym e))
-later_first s none false x (found.At i p) f e = absurd (some_none _ e)
-later_first s none false x found.Missing f e = refl
+later_first s none true x (Some g) f e = e
+later_first s none true x None f e = absurd (some_none x (sym e))
+later_first s none false x (Some g) f e = absurd (some_none _ e)
+later_first s none false x None f e = refl
 
-placed_first : (s : List ℕ) (kind : ℕ) (this f : Found) → StandsAt s kind this → StandsAt s kind f → StandsAt s kind (or_earlier this f)
-placed_first s kind (found.At i p) f a b = a
-placed_first s kind found.Missing f a b = b
+placed_first : (s : List ℕ) (kind : ℕ) (this f : Maybe Found) → StandsAt s kind this → StandsAt s kind f → StandsAt s kind (or_earlier this f)
+placed_first s kind (Some g) f a b = a
+placed_first s kind None f a b = b
 
-module _ {s : List ℕ} {kind n position at : ℕ} {f : Found} (W : Walking s kind n f position at) (l : at < length s) where
+module _ {s : List ℕ} {kind n position at : ℕ} {f : Maybe Found} (W : Walking s kind n f position at) (l : at < length s) where
   abbrev P : Top s at W.tops
   P = top_at W l
 
@@ -111,13 +120,13 @@ module _ {s : List ℕ} {kind n position at : ℕ} {f : Found} (W : Walking s ki
   }
 
   -- what the record at `at` gives: itself, if it has the name
-  pub has_name : {this : Found} → record_kind s at ≡ kind → le 2 s (at + 6) ≡ n → this ≡ found.At position at → ThisIs s n position at this × StandsAt s kind this
-  has_name {this} e q u = rw u (rw (eq-eqb (le 2 s (at + 6)) n q), P.ready e)
+  pub has_name : {this : Maybe Found} → record_kind s at ≡ kind → le 2 s (at + 6) ≡ n → this ≡ at_place position at → ThisIs s n position at this × StandsAt s kind this
+  has_name {this} e q u = rw u (rw (eq-eqb (le 2 s (at + 6)) n q), stands (P.ready e))
 
-  pub has_not : {this : Found} → (le 2 s (at + 6) ≡ n → ⊥) → this ≡ found.Missing → ThisIs s n position at this × StandsAt s kind this
+  pub has_not : {this : Maybe Found} → (le 2 s (at + 6) ≡ n → ⊥) → this ≡ None → ThisIs s n position at this × StandsAt s kind this
   has_not {this} q u = rw u (rw (ne_eqb (le 2 s (at + 6)) n q), tt)
 
-  pub this_kind : (this : Found) → record_kind s at ≡ kind → ThisIs s n position at this × StandsAt s kind this → Walking s kind n (or_earlier this f) (position + 1) (stop_of s at)
+  pub this_kind : (this : Maybe Found) → record_kind s at ≡ kind → ThisIs s n position at this × StandsAt s kind this → Walking s kind n (or_earlier this f) (position + 1) (stop_of s at)
   this_kind this e t =
       let o : Option (ℕ × Tree) = last_named tree_name (suc position) (these s kind (stop_of s at)) n in
       let b : Bool = eqb (le 2 s (at + 6)) n in
@@ -128,38 +137,9 @@ module _ {s : List ℕ} {kind n position at : ℕ} {f : Found} (W : Walking s ki
         placed = placed_first s kind this f t.1 W.placed;
       }
 
--- WHAT WAS FOUND, as one number
-pub coded : (at position : ℕ) → 8 ≤ at → position < 65536 → found_of (at * 65536 + position) ≡ found.At position at
-unfolding found_of
-coded at position h l =
-    let r : (at * 65536 + position) % 65536 ≡ position = omega arith in
-    let q : (at * 65536 + position) / 65536 ≡ at = omega arith in
-    rw (ne_eqb (at * 65536 + position) 0 (λ e. omega arith), r, q)
-
-pub nothing_found : found_of 0 ≡ found.Missing
-unfolding found_of
-nothing_found = refl
-
--- nothing, or the record at a place
-pub no_place : (i : ℕ) {p : ℕ} → p ≡ 0 → placed_at i p ≡ found.Missing
-unfolding placed_at
-no_place i e = rw e
-
-pub at_place : (i : ℕ) {p : ℕ} → (p ≡ 0 → ⊥) → placed_at i p ≡ found.At i p
-unfolding placed_at
-at_place i {p} h = rw (ne_eqb p 0 h)
-
--- of two numbers the later serves, unless it is nothing
-pub or_earlier_is : {r : ℕ} (later earlier : ℕ) → r ≡ pick (eqb later 0) earlier later → found_of r ≡ or_earlier (found_of later) (found_of earlier)
-unfolding found_of
-or_earlier_is {r} later earlier e =
-    by_test (eqb later 0)
-    (λ q. rw q (ap found_of (e ∙ ap (λ (b : Bool). pick b earlier later) q)))
-    (λ q. let d : r ≡ later = e ∙ ap (λ (b : Bool). pick b earlier later) q in rw (d, q))
-
 -- the same by other names
-pub moved : {s : List ℕ} {kind n position position' at : ℕ} {f f' : Found} → f' ≡ f → position' ≡ position → Walking s kind n f position at → Walking s kind n f' position' at
-moved {s} {kind} {n} {position} {position'} {at} {f} {f'} e q W = subst (λ (x : Found). Walking s kind n x position' at) (sym e) (subst (λ (x : ℕ). Walking s kind n f x at) (sym q) W)
+pub moved : {s : List ℕ} {kind n position position' at : ℕ} {f f' : Maybe Found} → f' ≡ f → position' ≡ position → Walking s kind n f position at → Walking s kind n f' position' at
+moved {s} {kind} {n} {position} {position'} {at} {f} {f'} e q W = subst (λ (x : Maybe Found). Walking s kind n x position' at) (sym e) (subst (λ (x : ℕ). Walking s kind n f x at) (sym q) W)
 
 -- A TABLE made of the records of a kind, searched by name
 abbrev pub over_second : {A : Type 0} → (Tree → A) → Option (ℕ × Tree) → Option (ℕ × A)
@@ -186,7 +166,7 @@ last_map {A} f name h i (t ∷ ts) n = rw (last_map f name h (suc i) ts n, h t) 
     go none false = refl
 
 -- what was found among the records, r, which is u, is what is found in the table
-pub in_table : {A : Type 0} {s : List ℕ} (k n : ℕ) (f : Tree → A) (name : A → ℕ) → ContractPassed s → ((t : Tree) → name (f t) ≡ tree_name t) → {l : List A} → l ≡ gather k k f (read_records s 8 (length s)) → {r u : Found}
+pub in_table : {A : Type 0} {s : List ℕ} (k n : ℕ) (f : Tree → A) (name : A → ℕ) → ContractPassed s → ((t : Tree) → name (f t) ≡ tree_name t) → {l : List A} → l ≡ gather k k f (read_records s 8 (length s)) → {r u : Maybe Found}
     → r ≡ u → found_in s r ≡ last_of s k n → last_named name 0 l n ≡ over_second f (found_in s u)
 in_table {A} {s} k n f name C h {l} e {r} {u} w q =
     ap (λ (x : List A). last_named name 0 x n) (e ∙ gather_map k f (read_records s 8 (length s)))
@@ -196,7 +176,7 @@ in_table {A} {s} k n f name C h {l} e {r} {u} w q =
 pub all_few : {s : List ℕ} {k : ℕ} → ContractPassed s → TopKind k → length (records_of s k) ≤ most_of k
 all_few {s} {k} C K = rw (← these_all k C) (at_most (λ (t : Tree). t) C K)
 
-pub position_low : {s : List ℕ} {k i p : ℕ} (n : ℕ) → ContractPassed s → TopKind k → {r : Found} → r ≡ found.At i p → found_in s r ≡ last_of s k n → i < most_of k
+pub position_low : {s : List ℕ} {k i p : ℕ} (n : ℕ) → ContractPassed s → TopKind k → {r : Maybe Found} → r ≡ at_place i p → found_in s r ≡ last_of s k n → i < most_of k
 position_low {s} {k} {i} {p} n C K e q =
     omega (
       arith,

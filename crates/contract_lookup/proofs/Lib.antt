@@ -3,6 +3,5 @@ pub mod Firsts
 mod LastFields
 pub mod Lasts
 pub mod Placing
-mod Reading
 mod Storing
 pub mod Symbolic

@@ -1,33 +1,38 @@
 -- The places of the contract's structs or of its functions: the walk that stores them, the last of a name among them, and what that is in
 -- the contract. Assumes nothing.
 use mathlib.Core.Path.{◌≡◌, refl, ap, sym, ◌∙◌, subst}
-use mathlib.Core.List.{List, [], ◌∷◌, ◌++◌, append-nil, map-append}
+use mathlib.Core.List.{List, [], ◌∷◌, ◌++◌, map, append-nil, map-append}
+use mathlib.Core.Bool.{Bool, true, false}
 use mathlib.Core.Option.{Option, none, some}
-use Prim.Native.Nat.{ℕ, suc, ◌+◌, ◌-◌, ◌≤◌, ◌<◌}
+use Prim.Native.Nat.{ℕ, zero, suc, ◌+◌, ◌-◌, ◌≤◌, ◌<◌}
 use native.Mathlib.Numerals.{add-one}
 use native.Mathlib.Omega.{arith}
-use lib.Dec.{eqb}
-use lib.ListN.{length, get_or, set, length-append, length-map, length-set}
+use lib.Dec.{eqb, leb}
+use lib.ListN.{length, get_or, set, take, length-append, length-map, length-set}
 use lib.Seq.{append_snoc, take-suc, take-suc-set, get_or-set_same, get_or-set_other, length-take-le}
 use borrow.Author.Count.{below_none, below_more}
-use borrow.Author.Tests.{eqb-true, eqb-false}
+use borrow.Author.Tests.{eqb-true, eqb-false, leb-true, leb-false}
+use Rattle.definitions.specs.Ast.{Function}
 use Rattle.definitions.specs.Fields.{le}
 use Rattle.definitions.specs.Names.{last_named}
-use Rattle.definitions.specs.Records.{pick, Tree}
+use Rattle.definitions.specs.Records.{Tree, read_records}
 use Rattle.definitions.specs.ContractSheet.{struct_of, function_of, read_contract}
 use Rattle.definitions.specs.Lower.{struct_named}
 use Rattle.definitions.specs.Sema.{function_named}
 use Rattle.definitions.proofs.Results.{by_test}
 use Rattle.definitions.proofs.Contracts.Limits.{TopKind, storage, struct, function, most_of}
 use Rattle.sheet.specs.Passed.{ContractPassed, record_kind, stop_of}
-use Rattle.contract_nodes.specs.Ready.{tree_at, top_class, Ready}
+use Rattle.contract_nodes.specs.Ready.{tree_at}
 use Rattle.contract_nodes.proofs.Order.{none_after}
 use Rattle.contract_nodes.proofs.Tops.{Tops, Top, next_top, contract_at}
-use Rattle.contract_lookup.specs.Answers.{found_in, StandsAt, tree_name, records_of, last_of}
-use Rattle.contract_lookup.specs.Listed.{Named, placed, Listed, place_if_named, LastAt}
+use Rattle.contract_lookup.specs.Answers.{second, nth_function, tree_name, records_of, last_of}
+use Rattle.contract_lookup.specs.Listed.{Named, placed, place_of, Listed, place_if_named, LastAt}
 use Rattle.contract_lookup.proofs.Backwards.{last_here, last_not}
-use Rattle.contract_lookup.proofs.Lasts.{these, these_all, these_end, these_here, these_past, all_few, no_place, at_place}
+use Rattle.contract_lookup.proofs.Lasts.{at_place, gather_map, these, these_all, these_end, these_here, these_past, all_few}
 use Rattle.contract_lookup.proofs.Symbolic.{struct_is, function_is}
+use Rattle.std.specs.Prelude.{Option as Maybe, None, Some, is_some}
+use Rattle.std.specs.Option.{option_or}
+use Rattle.contract_nodes.proofs.Standing.{stands}
 
 -- THE WALK: the first n of `most` places are those of the records of the kind before `at`
 pub record Listing (s : List ℕ) (kind most : ℕ) (places : List ℕ) (n at : ℕ) : Type 0 where
@@ -50,14 +55,19 @@ begun {s} {places} kind C h = record {
   named = below_none _;
 }
 
+-- the places of the records that stand at places
+places_back : (s ps : List ℕ) → map place_of (map (tree_at s) ps) ≡ ps
+places_back s [] = refl
+places_back s (p ∷ ps) = ap (λ (qs : List ℕ). p ∷ qs) (places_back s ps)
+
 module _ {s : List ℕ} {kind most : ℕ} {places : List ℕ} {n at : ℕ} (W : Listing s kind most places n at) where
   none_left : these s kind at ≡ [] → Listed s kind places n
-  none_left e = record {
-    few = W.few;
-    inside = omega (arith, W.few, W.wide, W.long);
-    are = sym (append-nil _) ∙ (ap (λ (ts : List Tree). placed s places n ++ ts) (sym e) ∙ W.are);
-    named = W.named;
-  }
+  none_left e = (
+    W.few,
+    omega (arith, W.few, W.wide, W.long),
+    sym (places_back s (take n places)) ∙ ap (map place_of) (sym (append-nil _) ∙ (ap (λ (ts : List Tree). placed s places n ++ ts) (sym e) ∙ W.are)),
+    W.named,
+  )
 
   pub listed : length s ≤ at → Listed s kind places n
   listed h = none_left (these_end kind W.tops h)
@@ -108,97 +118,147 @@ module _ {s : List ℕ} {kind most : ℕ} {places : List ℕ} {n at : ℕ} (W : 
             are = rw (add-one, take-suc-set places n at i, map-append, append_snoc) with_this;
             named = below_more _ n
                 (λ j b. rw (get_or-set_other places n j at 0 (λ z. omega arith)) (W.named j b))
-                (rw (get_or-set_same places n at 0 i) (record { ready = top_at.ready e; low = W.low; inside = omega (arith, top_at.long, top_at.inside); name = top_at.name }));
+                (rw (get_or-set_same places n at 0 i) (stands (top_at.ready e), omega (arith, top_at.long, top_at.inside), top_at.name));
           }
+
+-- the records of a kind are those that stand at their places
+module _ (s : List ℕ) (kind : ℕ) where
+  abbrev Again : ℕ → Type 0
+  Again at = map (λ (t : Tree). tree_at s (place_of t)) (these s kind at) ≡ these s kind at
+
+  again_here : {at : ℕ} {T : Tops s at} → Top s at T → Again (stop_of s at) → Again at
+  again_here {at} P e =
+      by_test (eqb (record_kind s at) kind)
+      (λ q. let z = these_here kind P (eqb-true _ kind q) in rw z (ap (λ (ts : List Tree). tree_at s at ∷ ts) e))
+      (λ q. let z = these_past kind P (eqb-false _ kind q) in rw z e)
+
+  again_from : (n at : ℕ) (T : Tops s at) → length s - at < n → Again at
+  again_from zero at T h = absurd (omega (arith, h))
+  again_from (suc n) at T h = go (leb (length s) at) refl (λ P. again_from n (stop_of s at) P.next (omega (arith, h, P.long, P.inside)))
+    where
+      go : (x : Bool) → leb (length s) at ≡ x → ((P : Top s at T) → Again (stop_of s at)) → Again at
+      go true e more = rw (these_end kind T (leb-true (length s) at e))
+      go false e more = let P : Top s at T = next_top T (leb-false (length s) at e) in again_here P (more P)
+
+  pub again : ContractPassed s → map (λ (t : Tree). tree_at s (place_of t)) (records_of s kind) ≡ records_of s kind
+  again C = rw (← these_all kind C) (again_from (suc (length s)) 8 (contract_at C).tops (omega arith))
+
+over_places : (s : List ℕ) (ts : List Tree) → map (tree_at s) (map place_of ts) ≡ map (λ (t : Tree). tree_at s (place_of t)) ts
+over_places s [] = refl
+over_places s (t ∷ ts) = ap (λ (us : List Tree). tree_at s (place_of t) ∷ us) (over_places s ts)
+
+-- they are the records of the kind
+pub placed_are : {s : List ℕ} (places : List ℕ) (kind n : ℕ) → ContractPassed s → Listed s kind places n → placed s places n ≡ records_of s kind
+placed_are {s} places kind n C L = ap (map (tree_at s)) L.2 ∙ (over_places s (records_of s kind) ∙ again s kind C)
 
 -- THE SEARCH: the last of the first i that has the name
 abbrev pub last_in : (s places : List ℕ) (i n : ℕ) → Option (ℕ × Tree)
 last_in s places i n = last_named tree_name 0 (placed s places i) n
 
 -- p is the answer, if the first i give what all of them give
-abbrev pub Serves : (s : List ℕ) (kind : ℕ) (places : List ℕ) (count n i p : ℕ) → Type 0
+abbrev pub Serves : (s : List ℕ) (kind : ℕ) (places : List ℕ) (count n i : ℕ) → Maybe ℕ → Type 0
 Serves s kind places count n i p = last_in s places i n ≡ last_in s places count n → LastAt s kind n p
 
--- those of the first i that are not among the first j were looked at, and gave p: it serves, or is 0 and the first j give what the first i give
-pub record Looked (s : List ℕ) (kind : ℕ) (places : List ℕ) (count n i j p : ℕ) : Type 0 where
-  pub found : (p ≡ 0 → ⊥) → Serves s kind places count n i p
-  pub passed : p ≡ 0 → last_in s places j n ≡ last_in s places i n
+-- those of the first i that are not among the first j were looked at, and gave p: it serves, or is nothing and the first j give what the first i give
+abbrev pub Looked : (s : List ℕ) (kind : ℕ) (places : List ℕ) (count n i j : ℕ) → Maybe ℕ → Type 0
+Looked s kind places count n i j None = last_in s places j n ≡ last_in s places i n
+Looked s kind places count n i j (Some p) = Serves s kind places count n i (Some p)
 
-module _ {s places : List ℕ} {kind count : ℕ} (n : ℕ) (L : Listed s kind places count) where
+module _ (s : List ℕ) (kind : ℕ) (places : List ℕ) (count n i j : ℕ) where
+  pub found : (p : Maybe ℕ) → Looked s kind places count n i j p → is_some p ≡ true → Serves s kind places count n i p
+  found None K e = absurd (let z : ◌≡◌ {A = ℕ} 0 1 = cc in omega arith)
+  found (Some p) K e = K
+
+  pub passed : (p : Maybe ℕ) → Looked s kind places count n i j p → is_some p ≡ false → last_in s places j n ≡ last_in s places i n
+  passed None K e = K
+  passed (Some p) K e = absurd (let z : ◌≡◌ {A = ℕ} 0 1 = cc in omega arith)
+
+  -- of two the later serves
+  or_looked : (k : ℕ) (later earlier : Maybe ℕ) → Looked s kind places count n i k later → Looked s kind places count n k j earlier → Looked s kind places count n i j (option_or later earlier)
+  or_looked k None None K M = M ∙ K
+  or_looked k None (Some p) K M = λ is. M (K ∙ is)
+  or_looked k (Some p) earlier K M = K
+
+module _ {s : List ℕ} (places : List ℕ) (kind count n : ℕ) (C : ContractPassed s) (L : Listed s kind places count) where
   all_are : last_in s places count n ≡ last_of s kind n
-  all_are = ap (λ (ts : List Tree). last_named tree_name 0 ts n) L.are
+  all_are = ap (λ (ts : List Tree). last_named tree_name 0 ts n) (placed_are places kind count C L)
 
   -- nothing is left
-  pub none_there : {i p : ℕ} → i ≡ 0 → p ≡ 0 → Serves s kind places count n i p
-  none_there e z is =
-      let m = no_place 0 z in
-      record { position = 0; is = ap (found_in s) m ∙ ((rw e at is) ∙ all_are); stands = subst (StandsAt s kind) (sym m) tt }
+  pub none_there : {i : ℕ} → i ≡ 0 → Serves s kind places count n i None
+  none_there {i} e is = sym (sym (ap (λ (k : ℕ). last_in s places k n) e) ∙ (is ∙ all_are))
 
   module _ {i j : ℕ} (e : i ≡ suc j) (b : i ≤ count) where
     here : Named s kind (get_or places j 0)
-    here = L.named j (omega arith)
+    here = L.3 j (omega arith)
 
     pub may_look : (j < length places) × (get_or places j 0 + 8 ≤ length s)
-    may_look = (omega (arith, L.inside), here.inside)
+    may_look = (omega (arith, L.1), here.1)
 
     from_last : last_named tree_name 0 (placed s places j ++ (tree_at s (get_or places j 0) ∷ [])) n ≡ last_in s places i n
     from_last = sym (rw (e, take-suc places j 0 may_look.0, map-append))
 
-    hit : {p : ℕ} → le 2 s (get_or places j 0 + 6) ≡ n → p ≡ get_or places j 0 → Serves s kind places count n i p
-    hit {p} q v is =
-        let k : ℕ = 0 + length (placed s places j) in
-        let m = at_place k {p = p} (λ z. omega (arith, here.low)) in
-        record {
-          position = k;
-          is = ap (found_in s) m ∙ rw v (sym (last_here tree_name (tree_at s (get_or places j 0)) n (here.name ∙ q) 0 (placed s places j)) ∙ (from_last ∙ (is ∙ all_are)));
-          stands = subst (StandsAt s kind) (sym m) (rw v here.ready);
-        }
+    hit : le 2 s (get_or places j 0 + 6) ≡ n → Serves s kind places count n i (Some (get_or places j 0))
+    hit q is = (0 + length (placed s places j), sym (sym (last_here tree_name (tree_at s (get_or places j 0)) n (here.2 ∙ q) 0 (placed s places j)) ∙ (from_last ∙ (is ∙ all_are))), here.0)
 
     miss : (le 2 s (get_or places j 0 + 6) ≡ n → ⊥) → last_in s places j n ≡ last_in s places i n
-    miss q = sym (last_not tree_name (tree_at s (get_or places j 0)) n (λ z. q (sym here.name ∙ z)) 0 (placed s places j)) ∙ from_last
+    miss q = sym (last_not tree_name (tree_at s (get_or places j 0)) n (λ z. q (sym here.2 ∙ z)) 0 (placed s places j)) ∙ from_last
 
-    looked : {p : ℕ} → p ≡ place_if_named s places j n → Looked s kind places count n i j p
+    pub looked : {p : Maybe ℕ} → p ≡ place_if_named s places j n → Looked s kind places count n i j p
     looked {p} r =
         by_test (eqb (le 2 s (get_or places j 0 + 6)) n)
-        (λ y. let v : p ≡ get_or places j 0 = rw y at r in record { found = λ h. hit (eqb-true _ n y) v; passed = λ z. absurd (omega (arith, here.low)) })
-        (λ y. let v : p ≡ 0 = rw y at r in record { found = λ h. absurd (h v); passed = λ z. miss (eqb-false _ n y) })
+        (λ y. let v : p ≡ Some (get_or places j 0) = rw y at r in rw v (hit (eqb-true _ n y)))
+        (λ y. let v : p ≡ None = rw y at r in rw v (miss (eqb-false _ n y)))
 
   -- the last one that is left
-  pub one_left : {i p : ℕ} → i ≡ 1 → i ≤ count → p ≡ place_if_named s places 0 n → Serves s kind places count n i p
-  one_left {i} {p} e b r is =
-      let K = looked e b r in
-      by_test (eqb p 0)
-      (λ y. none_there refl (eqb-true p 0 y) (K.passed (eqb-true p 0 y) ∙ is))
-      (λ y. K.found (eqb-false p 0 y) is)
+  one_served : {i : ℕ} (p : Maybe ℕ) → i ≡ 1 → Looked s kind places count n i 0 p → Serves s kind places count n i p
+  one_served None e K = λ is. none_there refl (K ∙ is)
+  one_served (Some p) e K = K
 
-  -- of two the later serves
-  pub two_looked : {i later earlier p : ℕ} → 1 < i → i ≤ count → later ≡ place_if_named s places (i - 1) n → earlier ≡ place_if_named s places (i - 2) n → p ≡ pick (eqb later 0) earlier later → Looked s kind places count n i (i - 2) p
-  two_looked {i} {later} {earlier} {p} l b u v r =
-      let K = looked {i = i} {j = i - 1} (omega arith) b u in
-      let M = looked {i = i - 1} {j = i - 2} (omega arith) (omega arith) v in
-      by_test (eqb later 0)
-      (λ y.
-      let z : later ≡ 0 = eqb-true later 0 y in
-      let w : p ≡ earlier = rw y at r in
-      rw w (record { found = λ h is. M.found h (K.passed z ∙ is); passed = λ h. M.passed h ∙ K.passed z }))
-      (λ y.
-      let z = eqb-false later 0 y in
-      let w : p ≡ later = rw y at r in
-      rw w (record { found = λ h. K.found h; passed = λ h. absurd (z h) }))
+  pub one_left : {i : ℕ} {p : Maybe ℕ} → i ≡ 1 → i ≤ count → p ≡ place_if_named s places 0 n → Serves s kind places count n i p
+  one_left {i} {p} e b r = one_served p e (looked e b r)
+
+  pub two_looked : {i : ℕ} {later earlier p : Maybe ℕ} → 1 < i → i ≤ count → later ≡ place_if_named s places (i - 1) n → earlier ≡ place_if_named s places (i - 2) n → p ≡ option_or later earlier → Looked s kind places count n i (i - 2) p
+  two_looked {i} {later} {earlier} {p} l b u v r = rw r (or_looked s kind places count n i (i - 2) (i - 1) later earlier (looked {i = i} {j = i - 1} (omega arith) b u) (looked {i = i - 1} {j = i - 2} (omega arith) (omega arith) v))
 
 -- WHAT WAS FOUND, in the contract
-module _ {s : List ℕ} {n p : ℕ} where
-  pub stands_there : {kind : ℕ} → LastAt s kind n p → (p ≡ 0 → ⊥) → Ready (top_class kind) s p 39
-  stands_there {kind} L h = subst (StandsAt s kind) (at_place L.position h) L.stands
+module _ {s : List ℕ} (n : ℕ) (C : ContractPassed s) where
+  pub no_struct : {r : Maybe ℕ} → r ≡ None → LastAt s 3 n r → none ≡ second (struct_named (read_contract s) n)
+  no_struct {r} e L = ap second (sym (struct_is n C {r = None} refl (sym (subst (LastAt s 3 n) e L))))
 
-  pub no_struct : ContractPassed s → LastAt s 3 n p → p ≡ 0 → struct_named (read_contract s) n ≡ none
-  no_struct C L e = struct_is n C (no_place L.position e) L.is
+  pub struct_there : {r : Maybe ℕ} {p : ℕ} → r ≡ Some p → LastAt s 3 n r → some (struct_of (tree_at s p)) ≡ second (struct_named (read_contract s) n)
+  struct_there {r} {p} e L =
+      let m = subst (LastAt s 3 n) e L in
+      ap second (sym (struct_is n C {r = at_place m.0 p} refl (sym m.1)))
 
-  pub struct_there : ContractPassed s → (L : LastAt s 3 n p) → (p ≡ 0 → ⊥) → struct_named (read_contract s) n ≡ some (L.position, struct_of (tree_at s p))
-  struct_there C L h = struct_is n C (at_place L.position h) L.is
+  pub no_function_lem : {r : Maybe ℕ} → r ≡ None → LastAt s 4 n r → none ≡ second (function_named (read_contract s) n)
+  no_function_lem {r} e L = ap second (sym (function_is n C {r = None} refl (sym (subst (LastAt s 4 n) e L))))
 
-  pub no_function_lem : ContractPassed s → LastAt s 4 n p → p ≡ 0 → function_named (read_contract s) n ≡ none
-  no_function_lem C L e = function_is n C (no_place L.position e) L.is
+  pub function_there : {r : Maybe ℕ} {p : ℕ} → r ≡ Some p → LastAt s 4 n r → some (function_of (tree_at s p)) ≡ second (function_named (read_contract s) n)
+  function_there {r} {p} e L =
+      let m = subst (LastAt s 4 n) e L in
+      ap second (sym (function_is n C {r = at_place m.0 p} refl (sym m.1)))
 
-  pub function_there : ContractPassed s → (L : LastAt s 4 n p) → (p ≡ 0 → ⊥) → function_named (read_contract s) n ≡ some (L.position, function_of (tree_at s p))
-  function_there C L h = function_is n C (at_place L.position h) L.is
+-- THE i-TH FUNCTION
+nth_past : (fs : List Function) (i : ℕ) → length fs ≤ i → nth_function fs i ≡ none
+nth_past [] i h = refl
+nth_past (f ∷ fs) zero h = absurd (omega (arith, h))
+nth_past (f ∷ fs) (suc i) h = nth_past fs i (omega (arith, h))
+
+nth_placed : (s : List ℕ) (n : ℕ) (ps : List ℕ) (i : ℕ) → i < n → n ≤ length ps → nth_function (map function_of (map (tree_at s) (take n ps))) i ≡ some (function_of (tree_at s (get_or ps i 0)))
+nth_placed s zero ps i h l = absurd (omega (arith, h))
+nth_placed s (suc n) [] i h l = absurd (omega (arith, l))
+nth_placed s (suc n) (p ∷ ps) zero h l = refl
+nth_placed s (suc n) (p ∷ ps) (suc i) h l = nth_placed s n ps i (omega (arith, h)) (omega (arith, l))
+
+module _ {s : List ℕ} (places : List ℕ) (n : ℕ) (C : ContractPassed s) (L : Listed s 4 places n) where
+  functions_are : (read_contract s).functions ≡ map function_of (placed s places n)
+  functions_are = (contract_at C).functions ∙ (gather_map 4 function_of (read_records s 8 (length s)) ∙ ap (map function_of) (these_all 4 C ∙ sym (placed_are places 4 n C L)))
+
+  pub function_count : n ≡ length (read_contract s).functions
+  function_count = sym (ap length functions_are ∙ rw (length-map, length-map) (length-take-le n places L.1))
+
+  pub no_nth : {i : ℕ} → n ≤ i → none ≡ nth_function (read_contract s).functions i
+  no_nth {i} h = sym (nth_past (read_contract s).functions i (omega (arith, h, function_count)))
+
+  pub nth_there : {i : ℕ} → i < n → some (function_of (tree_at s (get_or places i 0))) ≡ nth_function (read_contract s).functions i
+  nth_there {i} h = sym (ap (λ fs. nth_function fs i) functions_are ∙ nth_placed s n places i h L.1)

@@ -1,7 +1,7 @@
 -- Storage fields take ten bytes each, and come first: the i-th stands at 8 + 10 * i. Assumes nothing.
 use mathlib.Core.Path.{◌≡◌, refl, ap, ◌∙◌}
 use mathlib.Core.List.{List, [], ◌∷◌}
-use Prim.Native.Nat.{ℕ, ◌+◌, ◌*◌, ◌/◌, ◌%◌, ◌≤◌, ◌<◌}
+use Prim.Native.Nat.{ℕ, ◌+◌, ◌-◌, ◌*◌, ◌/◌, ◌%◌, ◌≤◌, ◌<◌}
 use native.Mathlib.Omega.{arith}
 use lib.Dec.{eqb, leb}
 use lib.ListN.{length}
@@ -16,10 +16,10 @@ use Rattle.sheet.specs.Passed.{record_kind, stop_of}
 use Rattle.contract_nodes.specs.Ready.{Ready}
 use Rattle.sheet.specs.Passed.{ContractPassed}
 use Rattle.contract_nodes.proofs.Children.{opened, nothing_left}
-use Rattle.contract_lookup.specs.declared.Found.{Found}
-use Rattle.contract_lookup.specs.declared.Found.TheVariants as found
-use Rattle.contract_lookup.specs.Answers.{found_in, stored_at, or_earlier, last_of}
-use Rattle.contract_lookup.proofs.Lasts.{Walking, begun, walked, stopped, top_at, has_name, has_not, this_kind, no_place, at_place}
+use Rattle.std.specs.Prelude.{Option as Maybe, None, Some}
+use Rattle.contract_lookup.specs.declared.symbols.Found.{Found}
+use Rattle.contract_lookup.specs.Answers.{found_in, stored_at, behind_of, BehindLast, last_of}
+use Rattle.contract_lookup.proofs.Lasts.{at_place, or_earlier, Walking, begun, walked, stopped, top_at, has_name, has_not, this_kind}
 
 top_range : {k : ℕ} → TopKind k → (2 ≤ k) × (k ≤ 4)
 top_range storage = (omega arith, omega arith)
@@ -38,13 +38,13 @@ head_is s at =
     let a : at + 4 + 1 + 1 ≡ at + 6 = omega arith in
     rw a (omega arith)
 
-stored : (i at : ℕ) → at ≡ 8 + 10 * i → stored_at at ≡ found.At i at
+stored : (i at : ℕ) → at ≡ 8 + 10 * i → stored_at (Some at) ≡ at_place i at
 stored i at e =
     let q : at / 10 ≡ i = omega arith in
-    at_place (at / 10) (λ z. omega arith) ∙ ap (λ (x : ℕ). found.At x at) q
+    ap (λ (x : ℕ). at_place x at) q
 
 -- `count` fields came before `at`, and the last of them that has the name stands at `place`, or there is none. `wanted` is the kind and the name.
-pub record Storing (s : List ℕ) (wanted place at : ℕ) : Type 0 where
+pub record Storing (s : List ℕ) (wanted : ℕ) (place : Maybe ℕ) (at : ℕ) : Type 0 where
   pub name : ℕ
   pub wanted_is : wanted ≡ 2 + 65536 * name
   pub count : ℕ
@@ -52,19 +52,19 @@ pub record Storing (s : List ℕ) (wanted place at : ℕ) : Type 0 where
   pub walking : Walking s 2 name (stored_at place) count at
 
 -- what `last_storage` ensures
-abbrev Answer : List ℕ → (place n : ℕ) → Type 0
+abbrev Answer : List ℕ → (place : Maybe ℕ) (n : ℕ) → Type 0
 Answer s place n = found_in s (stored_at place) ≡ last_of s 2 n
 
-pub begun_storing : (s : List ℕ) (n : ℕ) → ContractPassed s → Storing s (2 + 65536 * n) 0 8
-begun_storing s n C = record { name = n; wanted_is = refl; count = 0; at_is = refl; walking = rw (no_place 0 {p = 0} refl) (begun s 2 n C) }
+pub begun_storing : (s : List ℕ) (n : ℕ) → ContractPassed s → Storing s (2 + 65536 * n) None 8
+begun_storing s n C = record { name = n; wanted_is = refl; count = 0; at_is = refl; walking = begun s 2 n C }
 
-same_name : {s : List ℕ} {place at : ℕ} (n : ℕ) (S : Storing s (2 + 65536 * n) place at) → S.name ≡ n
+same_name : {s : List ℕ} {place : Maybe ℕ} {at : ℕ} (n : ℕ) (S : Storing s (2 + 65536 * n) place at) → S.name ≡ n
 same_name n S = omega (arith, S.wanted_is)
 
-pub all_stored : {s : List ℕ} {place at : ℕ} (n : ℕ) → Storing s (2 + 65536 * n) place at → length s ≤ at → Answer s place n
+pub all_stored : {s : List ℕ} {place : Maybe ℕ} {at : ℕ} (n : ℕ) → Storing s (2 + 65536 * n) place at → length s ≤ at → Answer s place n
 all_stored n S h = rw (same_name n S) at (walked S.walking h).0
 
-module _ {s : List ℕ} {wanted place at here : ℕ} (S : Storing s wanted place at) (l : at < length s) (e : here ≡ le 4 s (at + 4)) where
+module _ {s : List ℕ} {wanted : ℕ} {place : Maybe ℕ} {at here : ℕ} (S : Storing s wanted place at) (l : at < length s) (e : here ≡ le 4 s (at + 4)) where
   -- the kind at `at`
   kind_is : record_kind s at ≡ here % 65536
   kind_is = omega (arith, e, head_is s at, (top_range (top_at S.walking l).kind).1)
@@ -76,7 +76,7 @@ module _ {s : List ℕ} {wanted place at here : ℕ} (S : Storing s wanted place
     pub fits_ten : at + 10 ≡ stop_of s at
     fits_ten = let P = top_at S.walking l in ten_bytes (P.ready is_two) is_two
 
-    next_stored : (p : ℕ) (this : Found) → stored_at p ≡ or_earlier this (stored_at place) → Walking s 2 S.name (or_earlier this (stored_at place)) (S.count + 1) (stop_of s at) → Storing s wanted p (at + 10)
+    next_stored : (p : Maybe ℕ) (this : Maybe Found) → stored_at p ≡ or_earlier this (stored_at place) → Walking s 2 S.name (or_earlier this (stored_at place)) (S.count + 1) (stop_of s at) → Storing s wanted p (at + 10)
     next_stored p this q W = record {
       name = S.name;
       wanted_is = S.wanted_is;
@@ -85,38 +85,77 @@ module _ {s : List ℕ} {wanted place at here : ℕ} (S : Storing s wanted place
       walking = rw (q, fits_ten) W;
     }
 
-    wanted_here : here ≡ wanted → Storing s wanted at (at + 10)
+    wanted_here : here ≡ wanted → Storing s wanted (Some at) (at + 10)
     wanted_here w =
         let q : le 2 s (at + 6) ≡ S.name = omega (arith, e, head_is s at, is_two, S.wanted_is) in
-        let u : stored_at at ≡ found.At S.count at = stored S.count at S.at_is in
-        next_stored at (stored_at at) (rw u) (this_kind S.walking l (stored_at at) is_two (has_name S.walking l is_two q u))
+        let u : stored_at (Some at) ≡ at_place S.count at = stored S.count at S.at_is in
+        next_stored (Some at) (stored_at (Some at)) refl (this_kind S.walking l (stored_at (Some at)) is_two (has_name S.walking l is_two q u))
 
     other_here : (here ≡ wanted → ⊥) → Storing s wanted place (at + 10)
     other_here w =
         let q : (le 2 s (at + 6) ≡ S.name → ⊥) = (λ z. w (omega (arith, e, head_is s at, is_two, S.wanted_is))) in
-        next_stored place found.Missing refl (this_kind S.walking l found.Missing is_two (has_not S.walking l q refl))
+        next_stored place None refl (this_kind S.walking l None is_two (has_not S.walking l q refl))
 
-    pub stored_on : {r : ℕ} → r ≡ pick (eqb here wanted) at place → Storing s wanted r (at + 10)
+    pub stored_on : {r : Maybe ℕ} → r ≡ pick (eqb here wanted) (Some at) place → Storing s wanted r (at + 10)
     stored_on q = by_test (eqb here wanted) (λ y. rw (q, y) (wanted_here (eqb-true here wanted y))) (λ y. rw (q, y) (other_here (eqb-false here wanted y)))
 
 -- behind the storage fields
-pub past_stored : {s : List ℕ} {place at here : ℕ} (n : ℕ) (S : Storing s (2 + 65536 * n) place at) → at < length s → here ≡ le 4 s (at + 4) → (here % 65536 ≡ 2 → ⊥) → Answer s place n
+pub past_stored : {s : List ℕ} {place : Maybe ℕ} {at here : ℕ} (n : ℕ) (S : Storing s (2 + 65536 * n) place at) → at < length s → here ≡ le 4 s (at + 4) → (here % 65536 ≡ 2 → ⊥) → Answer s place n
 past_stored n S l e k =
     let r = (top_range (top_at S.walking l).kind).0 in
     rw (same_name n S) at (stopped S.walking l (omega (arith, r, k, kind_is S l e))).0
 
 -- the last record that can be a storage field
-pub last_stored : {s : List ℕ} {place at here r : ℕ} (n : ℕ) → Storing s (2 + 65536 * n) place at → at < length s → length s ≤ at + 10
-    → here ≡ le 4 s (at + 4) → r ≡ pick (eqb here (2 + 65536 * n)) at place → Answer s r n
+pub last_stored : {s : List ℕ} {place : Maybe ℕ} {at here : ℕ} {r : Maybe ℕ} (n : ℕ) → Storing s (2 + 65536 * n) place at → at < length s → length s ≤ at + 10
+    → here ≡ le 4 s (at + 4) → r ≡ pick (eqb here (2 + 65536 * n)) (Some at) place → Answer s r n
 last_stored {here = here} n S l h e q =
     by_test (eqb (here % 65536) 2)
     (λ k. all_stored n (stored_on S l e (eqb-true (here % 65536) 2 k) q) h)
     (λ k. let other : (here ≡ 2 + 65536 * n → ⊥) = (λ z. eqb-false (here % 65536) 2 k (omega arith)) in rw (q, ne_eqb here (2 + 65536 * n) other) (past_stored n S l e (eqb-false (here % 65536) 2 k)))
 
 -- none fits
-pub none_stored : (s : List ℕ) (n : ℕ) → ContractPassed s → length s < 18 → Answer s 0 n
+pub none_stored : (s : List ℕ) (n : ℕ) → ContractPassed s → length s < 18 → Answer s None n
 none_stored s n C h =
-    let S : Storing s (2 + 65536 * n) 0 8 = begun_storing s n C in
+    let S : Storing s (2 + 65536 * n) None 8 = begun_storing s n C in
     by_test (leb (length s) 8)
     (λ k. all_stored n S (leb-true (length s) 8 k))
     (λ k. let l = leb-false (length s) 8 k in past_stored n S l refl (λ two. omega (arith, fits_ten S l refl two, (top_at S.walking l).inside)))
+
+-- THE SAME BY WHAT THE CODE KEEPS: the place behind the field that was found
+pub record Behind (s : List ℕ) (wanted behind at : ℕ) : Type 0 where
+  pub place : Maybe ℕ
+  pub is : behind ≡ behind_of place
+  pub storing : Storing s wanted place at
+
+pub behind_begun : (s : List ℕ) (n : ℕ) → ContractPassed s → Behind s (2 + 65536 * n) 8 8
+behind_begun s n C = record { place = None; is = refl; storing = begun_storing s n C }
+
+pub behind_on : {s : List ℕ} {wanted behind at here r : ℕ} → Behind s wanted behind at → at < length s → here ≡ le 4 s (at + 4) → here % 65536 ≡ 2 → r ≡ pick (eqb here wanted) (at + 10) behind → Behind s wanted r (at + 10)
+behind_on {wanted = wanted} {at = at} {here = here} B l e k q =
+    by_test (eqb here wanted)
+    (λ y. record { place = Some at; is = rw y at q; storing = stored_on B.storing l e k (rw y refl) })
+    (λ y. record { place = B.place; is = rw y at q ∙ B.is; storing = stored_on B.storing l e k (rw y refl) })
+
+pub all_behind : {s : List ℕ} {behind at : ℕ} (n : ℕ) → Behind s (2 + 65536 * n) behind at → length s ≤ at → BehindLast s n behind
+all_behind n B h = (B.place, B.is, all_stored n B.storing h)
+
+pub past_behind : {s : List ℕ} {behind at here : ℕ} (n : ℕ) → Behind s (2 + 65536 * n) behind at → at < length s → here ≡ le 4 s (at + 4) → (here % 65536 ≡ 2 → ⊥) → BehindLast s n behind
+past_behind n B l e k = (B.place, B.is, past_stored n B.storing l e k)
+
+pub last_behind : {s : List ℕ} {behind at here r : ℕ} (n : ℕ) → Behind s (2 + 65536 * n) behind at → at < length s → length s ≤ at + 10 → here ≡ le 4 s (at + 4) → r ≡ pick (eqb here (2 + 65536 * n)) (at + 10) behind → BehindLast s n r
+last_behind {at = at} {here = here} n B l h e q =
+    by_test (eqb here (2 + 65536 * n))
+    (λ y. (Some at, rw y at q, last_stored {r = Some at} n B.storing l h e (rw y refl)))
+    (λ y. (B.place, rw y at q ∙ B.is, last_stored {r = B.place} n B.storing l h e (rw y refl)))
+
+pub none_behind : (s : List ℕ) (n : ℕ) → ContractPassed s → length s < 18 → BehindLast s n 8
+none_behind s n C h = (None, refl, none_stored s n C h)
+
+-- the field before it
+pub no_field : {b : ℕ} (p : Maybe ℕ) → b ≡ behind_of p → b ≡ 8 → p ≡ None
+no_field (Some p) e q = absurd (omega (arith, e, q))
+no_field None e q = refl
+
+pub field_before : {b : ℕ} (p : Maybe ℕ) → b ≡ behind_of p → (b ≡ 8 → ⊥) → p ≡ Some (b - 10)
+field_before (Some p) e q = ap Some (omega (arith, e))
+field_before None e q = absurd (q e)

@@ -11,7 +11,8 @@ use Rattle.definitions.specs.Lower.{storage_named, struct_named}
 use Rattle.definitions.specs.Sema as sema
 use Rattle.sheet.specs.Passed.{ContractPassed}
 use Rattle.contract_nodes.proofs.Tops.{contract_at}
-use Rattle.contract_lookup.specs.declared.Found.{Found}
+use Rattle.std.specs.Prelude.{Option as Maybe}
+use Rattle.contract_lookup.specs.declared.symbols.Found.{Found}
 use Rattle.contract_lookup.specs.Answers.{found_in, tree_name, slot_named, id_named, last_of}
 use Rattle.contract_lookup.proofs.Lasts.{over_second, in_table}
 
@@ -27,10 +28,10 @@ unfolding function_of
 function_name_lem (node at k v ts) = refl
 
 -- what `last_named` ensures
-abbrev pub FoundAs : List ℕ → (k n : ℕ) → Found → Type 0
+abbrev pub FoundAs : List ℕ → (k n : ℕ) → Maybe Found → Type 0
 FoundAs s k n r = found_in s r ≡ last_of s k n
 
-module _ {s : List ℕ} (n : ℕ) (C : ContractPassed s) {r u : Found} (e : r ≡ u) where
+module _ {s : List ℕ} (n : ℕ) (C : ContractPassed s) {r u : Maybe Found} (e : r ≡ u) where
   pub storage_is : FoundAs s 2 n r → storage_named (read_contract s) n ≡ over_second storage_of (found_in s u)
   storage_is q = in_table 2 n storage_of (λ (f : StorageField). f.name) C storage_name (contract_at C).storage e q
 

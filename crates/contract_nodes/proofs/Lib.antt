@@ -1,6 +1,8 @@
 pub mod Children
-pub mod Exprs
+pub mod ExprPlaces
 pub mod Order
-pub mod Stmts
+pub mod StmtPlaces
 pub mod Parts
+pub mod Standing
+pub mod Steps
 pub mod Tops

@@ -16,7 +16,7 @@ use Rattle.definitions.proofs.Sheets.Singles.{after}
 use Rattle.sheet.specs.Passed.{record_kind, stop_of}
 use Rattle.contract_nodes.specs.Ready.{expr_at, stmt_at, stmts_from, Ready, ReadyAll}
 use Rattle.contract_nodes.proofs.Children.{at_end, nothing_at, bounds, by_row, entries}
-use Rattle.contract_nodes.proofs.Stmts.{let_at, IfAt, ElseAt, if_at, WhileAt, while_at, ForAt, for_at}
+use Rattle.contract_nodes.proofs.StmtPlaces.{let_at, IfAt, ElseAt, if_at, WhileAt, while_at, ForAt, for_at}
 
 -- a record's stop, from the number that was read
 pub stop_is : (s : List ℕ) (at : ℕ) {n : ℕ} → n ≡ le 4 s at → at + n ≡ stop_of s at

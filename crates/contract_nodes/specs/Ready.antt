@@ -1,13 +1,13 @@
 -- The records of a contract sheet that passed refusals 3 and 4, by their places: what the functions of lowering ask of their caller.
 -- Assumes nothing: these are definitions.
-use Rattle.std.specs.Prelude.{ℕ, zero, suc, ◌+◌, ◌≤◌, ◌≡◌, List, [], ◌∷◌, eqb, length}
+use Rattle.std.specs.Prelude.{ℕ, zero, suc, ◌+◌, ◌-◌, ◌≤◌, ◌≡◌, List, [], ◌∷◌, eqb, length}
 use Rattle.definitions.specs.Fields.{le}
-use Rattle.definitions.specs.Ast.{Expr, Exprs, Stmt, Stmts, Param, Function}
-use Rattle.definitions.specs.Grammar.{Class, many, done}
-use Rattle.definitions.specs.Records.{pick, Tree, node, read_records, Good}
-use Rattle.definitions.specs.ContractSheet.{Counts, limit_tree, limit_trees, expr_of, exprs_of, stmt_of, stmts_of, function_of}
+use Rattle.definitions.specs.Ast.{Expr, Exprs, FieldInits, Stmt, Stmts, Param, Function}
+use Rattle.definitions.specs.Grammar.{Class, one, many, done}
+use Rattle.definitions.specs.Records.{pick, Tree, node, read_records, check_records, Good}
+use Rattle.definitions.specs.ContractSheet.{Counts, none_before, limit_tree, limit_trees, field_inits_of, expr_of, exprs_of, stmt_of, stmts_of, function_of}
 use Rattle.definitions.specs.Fine.{Fine}
-use Rattle.sheet.specs.Passed.{Node, record_kind, values_at, children_of}
+use Rattle.sheet.specs.Passed.{Node, stop_of, record_kind, values_at, children_of}
 
 -- the record at a place, with all that is in it
 abbrev pub tree_at : List ℕ → ℕ → Tree
@@ -56,3 +56,16 @@ pub record ReadyAll (c : Class) (s : List ℕ) (at end d : ℕ) : Type 0 where
   pub sum : depth + d ≡ 41
   pub before : Counts
   pub limit : limit_trees (read_records s at end) depth before ≡ Good
+
+-- the fields of a struct literal from `at` to `end`
+abbrev pub fields_from : List ℕ → (at end : ℕ) → FieldInits
+fields_from s at end = field_inits_of (read_records s at end) (exprs_from s at end)
+
+-- THE SAME AS EQUATIONS, which a value can carry: a record of the class c stands at `at`, and its depth is 41 less d
+abbrev pub Stands : Class → List ℕ → (at d : ℕ) → Type 0
+Stands c s at d =
+    (check_records s at (stop_of s at) (one c done) ≡ Good) × (stop_of s at ≤ length s) × (limit_tree (tree_at s at) (41 - d) none_before ≡ Good) × (d ≤ 41)
+
+abbrev pub StandAll : Class → List ℕ → (at end d : ℕ) → Type 0
+StandAll c s at end d =
+    (check_records s at end (many c done) ≡ Good) × (end ≤ length s) × (limit_trees (read_records s at end) (41 - d) none_before ≡ Good) × (d ≤ 41)

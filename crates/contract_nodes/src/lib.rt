@@ -1,2 +1,13 @@
-// No code: the records of a contract sheet that passed 3 and 4, at their places (specs), and their parts (proofs).
+// A contract sheet that passed its check, as the tree that the Rust has (`ast.rs`): nodes that know where they stand, and what each of them is.
 #![tactic(auto)]
+
+// `Exprs`, `FieldInits` and `Stmts` are no generic list: each reads as a list type of its own in the definitions, and a trait of their elements would need a class,
+// three readings and two laws, for two bodies of ten lines. `next` is no `Iterator`: it also says where the rest stands, and callers' measures rest on that.
+
+pub mod contract; // the contract, its items and what they have in them
+pub mod expr; // expressions
+pub mod stmt; // statements
+
+pub use contract::{Contract, Function, Param, Struct};
+pub use expr::{Expr, ExprNode, Exprs, FieldInit, FieldInits};
+pub use stmt::{Stmt, StmtNode, Stmts};

@@ -1,54 +1,53 @@
--- One digit after another: what stands in front of a place, with the digits behind it. Assumes nothing.
-use mathlib.Core.Path.{◌≡◌, refl, sym, ap, ◌∙◌, subst}
-use mathlib.Core.List.{List, [], ◌∷◌, ◌++◌, append_assoc, append-nil}
-use Prim.Native.Nat.{ℕ, suc, ◌+◌, ◌-◌, ◌/◌, ◌%◌, ◌≤◌, ◌<◌}
-use native.Mathlib.Numerals.{add-one}
+-- A number's digits as std prints them, the last of them, and a part of a list that they were copied to. Assumes nothing.
+use mathlib.Core.Path.{◌≡◌, refl, sym, ap, ◌∙◌}
+use mathlib.Core.Bool.{Bool, true, false}
+use mathlib.Core.List.{List, [], ◌∷◌, ◌++◌}
+use Prim.Native.Nat.{ℕ, zero, suc, ◌+◌, ◌-◌, ◌/◌, ◌%◌, ◌^◌, ◌≤◌, ◌<◌}
+use native.Mathlib.Nat.{sub-zero}
 use native.Mathlib.Omega.{arith}
-use borrow.Author.Tests.{lt-ltb, le-ltb}
-use lib.ListN.{length, take, drop, set, length-set}
-use lib.Seq.{take-suc-set, drop-drop, drop-set-lt}
+use borrow.Author.Tests.{ltb-true, ltb-false}
+use borrow.Rule.Slice.PartMut.{put_mid, mid_len, same_len_mid}
+use lib.Dec.{ltb}
+use lib.ListN.{length, take, drop, length-append}
+use lib.Seq.{take-length, drop-length}
+use Rattle.std.specs.Fmt.{decimal}
+use Rattle.std.proofs.lemmas.Fmt.{decimal_step, decimal_digit}
+use Rattle.std.proofs.lemmas.List.{drop-append-le, length-drop}
+use Rattle.std.proofs.lemmas.Slice.{take-put_mid, drop-put_mid}
 use Rattle.definitions.specs.Lines.{digits_within}
 use Rattle.digits.specs.Digits.{DigitsPut}
 
--- a store behind what stands in front of a place
-pub stored : (l : List ℕ) (at d : ℕ) → at < length l → take (at + 1) (set l at d) ≡ take at l ++ (d ∷ [])
-stored l at d h = rw (add-one at) (take-suc-set l at d h)
-
--- what is left as it was behind a place is so behind a later one, and a store in front of that changes nothing there
-pub later : (l m : List ℕ) (p q : ℕ) → p ≤ q → drop p m ≡ drop p l → drop q m ≡ drop q l
-later l m p q h e =
-    let there : p + (q - p) ≡ q = omega arith in
-    subst (λ (n : ℕ). drop n m ≡ drop n l) there (sym (drop-drop (q - p) p m) ∙ ap (λ (r : List ℕ). drop (q - p) r) e ∙ drop-drop (q - p) p l)
-
-pub left : (l m : List ℕ) (p d : ℕ) → drop p m ≡ drop p l → drop (p + 1) (set m p d) ≡ drop (p + 1) l
-left l m p d e = drop-set-lt (p + 1) m p d (omega arith) ∙ later l m p (p + 1) (omega arith) e
-
--- THE WAYS OUT: no digit is left to write; one is; the last stands behind those of the tenth
-pub none_put : (most v : ℕ) (l : List ℕ) (at : ℕ) → most ≡ 0 → DigitsPut most v l at l at
+-- the last k digits
+last_digits : (k n : ℕ) → n < 2 ^ 64 → digits_within k n ≡ drop (length (decimal n) - k) (decimal n)
 unfolding digits_within
-none_put most v l at e = record { front = rw e (sym (append-nil (take at l))); behind = refl; same_length = refl; low = omega arith; high = omega arith }
+last_digits zero n h = rw (sub-zero (length (decimal n)), drop-length (decimal n)) refl
+last_digits (suc k) n h = go (last_digits k (n / 10) (omega arith)) (ltb n 10) refl
+  where
+    go : digits_within k (n / 10) ≡ drop (length (decimal (n / 10)) - k) (decimal (n / 10)) → (t : Bool) → ltb n 10 ≡ t → digits_within (suc k) n ≡ drop (length (decimal n) - suc k) (decimal n)
+    go tenths true q =
+        let one : 1 - suc k ≡ 0 = omega arith in
+        rw (q, decimal_digit n (ltb-true n 10 q), one) refl
+    go tenths false q =
+        let tenth = decimal (n / 10) in
+        let digit = (48 + n % 10) ∷ [] in
+        let left : length (tenth ++ digit) - suc k ≡ length tenth - k = simp length-append (omega arith) in
+        rw (q, decimal_step n (ltb-false n 10 q) h, left, tenths) (sym (drop-append-le (length tenth - k) tenth digit (omega arith)))
 
-module _ (most v : ℕ) (l : List ℕ) (at : ℕ) (fits : at + most ≤ length l) (some : most ≡ 0 → ⊥) where
-  within : (n : ℕ) → n ≡ suc (most - 1) → digits_within most v ≡ digits_within n v
-  within n e = let z : most ≡ n = omega arith in rw z
-
-  pub one_put : v < 10 → {d : ℕ} → d ≡ 48 + v → DigitsPut most v l at (set l at d) (at + 1)
-  unfolding digits_within
-  one_put h {d} e =
-      let digits : digits_within most v ≡ (48 + v) ∷ [] = within (suc (most - 1)) refl ∙ rw (lt-ltb v 10 h) in
-      record { front = stored l at d (omega arith) ∙ rw (digits, e); behind = left l l at d refl; same_length = length-set l at d; low = omega arith; high = omega arith }
-
-  pub last_put : 10 ≤ v → {m : List ℕ} {p : ℕ} → DigitsPut (most - 1) (v / 10) l at m p → {d : ℕ} → d ≡ 48 + v % 10 → DigitsPut most v l at (set m p d) (p + 1)
-  unfolding digits_within
-  last_put h {m} {p} f {d} e =
-      let digits : digits_within most v ≡ digits_within (most - 1) (v / 10) ++ ((48 + v % 10) ∷ []) = within (suc (most - 1)) refl ∙ rw (le-ltb v 10 h) in
-      let long : length m ≡ length l = f.same_length in
-      let far : p ≤ at + (most - 1) = f.high in
-      let near : at ≤ p = f.low in
-      record {
-        front = stored m p d (omega arith) ∙ rw (f.front, digits, e) (append_assoc (take at l) (digits_within (most - 1) (v / 10)) ((48 + v % 10) ∷ []));
-        behind = left l m p d f.behind;
-        same_length = length-set m p d ∙ long;
-        low = omega arith;
-        high = omega arith;
-      }
+-- the part that takes them
+pub digits_put : (most v at : ℕ) (out all part : List ℕ) (from : ℕ) → v < 2 ^ 64 → at + most ≤ length out → all ≡ decimal v → from ≡ length all - most
+    → part ≡ take (length all - from) (drop from all)
+    → DigitsPut most v out at (put_mid at (at + length (take (length all - from) (drop from all)) - at) out part) (at + length (take (length all - from) (drop from all)))
+digits_put most v at out all part from h fits text start copied =
+    let whole : take (length all - from) (drop from all) ≡ drop from all = rw (← length-drop from all) (take-length (drop from all)) in
+    let digits : drop from all ≡ digits_within most v = rw (start, text) (sym (last_digits most v h)) in
+    let long : length (digits_within most v) ≡ length all - from = ap length (sym digits) ∙ length-drop from all in
+    let few : length (digits_within most v) ≤ most = omega arith in
+    let n = length (digits_within most v) in
+    let room : at + n - at ≡ n = omega arith in
+    rw (copied, whole, digits) (record {
+      front = take-put_mid at (at + n - at) out (digits_within most v) (at + n) refl (omega arith);
+      behind = drop-put_mid at (at + n - at) out (digits_within most v) (at + n) (omega arith) (omega arith) (sym room);
+      same_length = same_len_mid at (at + n - at) out (digits_within most v) (sym (mid_len at (at + n) out (omega arith) ∙ room));
+      low = omega arith;
+      high = omega arith;
+    })

@@ -1,4 +1,7 @@
 // Where the fields of a program sheet's records stand.
+ghost use Rattle.format.specs.Contexts as numbers;
+
+use crate::kinds::UnknownKind;
 use crate::{HEAD, ID, TYPE};
 
 // The program: its functions, then their names.
@@ -99,7 +102,30 @@ pub const EVENT_ARGS: usize = OWN + ID;
 
 pub const CONTEXT: usize = OWN;
 
-// What a ContextRead can read.
+// What a ContextRead can read: the Rust's `ContextKind`.
+#[derive(Clone, Copy, Debug, PartialEq, Eq)]
+pub enum ContextKind {
+    MsgSender,
+    MsgNonce,
+    BlockNumber,
+}
+
+impl TryFrom<u16> for ContextKind {
+    type Error = UnknownKind;
+
+    ghost try_from_gives = { numbers.IsContextKind };
+
+    fn try_from(number: u16) -> Result<Self, UnknownKind> {
+        match number {
+            0 => Ok(ContextKind::MsgSender),
+            1 => Ok(ContextKind::MsgNonce),
+            2 => Ok(ContextKind::BlockNumber),
+            _ => Err(UnknownKind(number)),
+        }
+    }
+}
+
+// The same numbers by themselves, until their last reader has the enum.
 pub const MSG_SENDER: usize = 0;
 
 pub const MSG_NONCE: usize = 1;

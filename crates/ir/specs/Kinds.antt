@@ -1,36 +1,34 @@
--- The rows of the instruction kinds as numbers. Assumes nothing: these are definitions.
-use Rattle.std.specs.Prelude.{ℕ}
+-- The code's rows of the instruction kinds in the words of the definitions. Assumes nothing: these are definitions.
 use Rattle.std.proofs.Math.Option.{Option, none, some}
-use Rattle.definitions.specs.Ir.{Effect}
-use Rattle.definitions.specs.InstrTable.{ResultRule, KindRow, kind_row}
+use Rattle.definitions.specs.Ir as ir
+use Rattle.definitions.specs.InstrTable as table
+use Rattle.ir.specs.declared.ResultRule.{ResultRule}
+use Rattle.ir.specs.declared.ResultRule.TheVariants as rules
+use Rattle.ir.specs.declared.Effect.{Effect}
+use Rattle.ir.specs.declared.Effect.TheVariants as effects
 
-abbrev pub rule_no : ResultRule → ℕ
-rule_no ResultRule.nothing = 0
-rule_no ResultRule.own = 1
-rule_no ResultRule.own_unless_void = 2
-rule_no ResultRule.bool = 3
-rule_no ResultRule.u64 = 4
+abbrev pub rule_of : ResultRule → table.ResultRule
+rule_of rules.None = table.ResultRule.nothing
+rule_of rules.Own = table.ResultRule.own
+rule_of rules.OwnUnlessVoid = table.ResultRule.own_unless_void
+rule_of rules.Bool = table.ResultRule.bool
+rule_of rules.U64 = table.ResultRule.u64
 
-abbrev pub effect_no : Effect → ℕ
-effect_no Effect.Pure = 0
-effect_no Effect.MemoryRead = 1
-effect_no Effect.MemoryWrite = 2
-effect_no Effect.StateRead = 3
-effect_no Effect.StateWrite = 4
-effect_no Effect.ContextRead = 5
-effect_no Effect.Event = 6
-effect_no Effect.Call = 7
+abbrev pub effect_of : Effect → ir.Effect
+effect_of effects.Pure = ir.Effect.Pure
+effect_of effects.MemoryRead = ir.Effect.MemoryRead
+effect_of effects.MemoryWrite = ir.Effect.MemoryWrite
+effect_of effects.StateRead = ir.Effect.StateRead
+effect_of effects.StateWrite = ir.Effect.StateWrite
+effect_of effects.ContextRead = ir.Effect.ContextRead
+effect_of effects.Event = ir.Effect.Event
+effect_of effects.Call = ir.Effect.Call
 
-abbrev row_rule : Option KindRow → ℕ
-row_rule none = 0
-row_rule (some r) = rule_no r.result
+-- what a row of the definitions says of the result and of the effect, if there is one
+abbrev pub rule_in : Option table.KindRow → Option table.ResultRule
+rule_in none = none
+rule_in (some r) = some r.result
 
-abbrev row_effect : Option KindRow → ℕ
-row_effect none = 0
-row_effect (some r) = effect_no r.effect
-
-unfoldable pub rule_number : ℕ → ℕ
-rule_number k = row_rule (kind_row k)
-
-unfoldable pub effect_number : ℕ → ℕ
-effect_number k = row_effect (kind_row k)
+abbrev pub effect_in : Option table.KindRow → Option ir.Effect
+effect_in none = none
+effect_in (some r) = some r.effect

@@ -1,16 +1,19 @@
 // Names, ids, types and instruction kinds of the intermediate program (`ir/mod.rs`), as document 01 numbers them.
 #![tactic(auto)]
 
-ghost use Rattle.std.specs.Prelude.{◌≡◌, [], ◌∷◌, ◌/◌, ◌%◌, ◌≤◌, ◌<◌};
+ghost use Rattle.std.specs.Prelude.{◌≡◌, [], ◌∷◌, ◌/◌, ◌%◌};
+ghost use Rattle.std.proofs.Math.Option.{some};
 ghost use Rattle.definitions.specs.Names.{empty, u64, bool, field, void, poseidon, verify_merkle_proof, msg_sender, msg_nonce, block_number};
 ghost use Rattle.definitions.specs.Records.{type_from};
 ghost use Rattle.ir.specs.Types.{as_type, Coded};
-ghost use Rattle.ir.specs.Kinds.{rule_number, effect_number};
+ghost use Rattle.definitions.specs.InstrTable.{kind_row};
+ghost use Rattle.format.specs.Kinds.{instr_number};
+ghost use Rattle.ir.specs.Kinds.{rule_of, effect_of, rule_in, effect_in};
 
-use format::kinds::FIRST_INSTRUCTION;
+use format::kinds::{FIRST_INSTRUCTION, Instruction};
 
 // A name. Equal numbers stand for equal strings.
-#[derive(Clone, Copy)]
+#[derive(Clone, Copy, Debug, PartialEq, Eq)]
 pub struct Name(pub u16);
 
 // The reserved names.
@@ -62,19 +65,19 @@ pub fn reserved() -> [u16; 10]
 }
 
 // The four kinds of id: one never passes for another.
-#[derive(Clone, Copy)]
+#[derive(Clone, Copy, Debug, PartialEq, Eq)]
 pub struct ValueId(pub u16);
 
-#[derive(Clone, Copy)]
+#[derive(Clone, Copy, Debug, PartialEq, Eq)]
 pub struct BlockId(pub u16);
 
-#[derive(Clone, Copy)]
+#[derive(Clone, Copy, Debug, PartialEq, Eq)]
 pub struct FunctionId(pub u16);
 
-#[derive(Clone, Copy)]
+#[derive(Clone, Copy, Debug, PartialEq, Eq)]
 pub struct LocalId(pub u16);
 
-#[derive(Clone, Copy)]
+#[derive(Clone, Copy, Debug, PartialEq, Eq)]
 pub enum IrType {
     U64,
     Bool,
@@ -83,7 +86,7 @@ pub enum IrType {
     Void,
 }
 
-// A type's code is the number of its four bytes: its tag, and PER_NAME times its name. Only a struct's type has a name.
+// A type's code is the number of its four bytes on a program sheet: its tag, and PER_NAME times its name. Only a struct's type has a name.
 pub const PER_NAME: usize = 65536;
 
 pub const U64_CODE: usize = 0;
@@ -96,108 +99,110 @@ pub const STRUCT_CODE: usize = 3;
 
 pub const VOID_CODE: usize = 4;
 
-// What stands in place of a code where there is no type.
+// What stands in place of a code where there is no type, in the numbers of a refusal: the C interface and the printed lines have numbers alone.
 pub const NO_TYPE: usize = 65535;
 
-// The type of a tag and a name.
-pub fn type_of(tag: u16, name: u16) -> IrType
-    ensures { as_type result ≡ type_from tag name }
-{
-    match tag as usize {
-        U64_CODE => IrType::U64,
-        BOOL_CODE => IrType::Bool,
-        FIELD_CODE => IrType::Field,
-        STRUCT_CODE => IrType::Struct(Name::new(name)),
-        _ => IrType::Void,
+impl IrType {
+    // The type of a tag and a name.
+    #[tactic(auto, using(std::proofs::lemmas::Bool::Decides::nat_tests), unfolding(definitions::specs::Records::type_from))]
+    pub fn from_parts(tag: u16, name: u16) -> IrType
+        ensures { as_type result ≡ type_from tag name }
+    {
+        match tag as usize {
+            U64_CODE => IrType::U64,
+            BOOL_CODE => IrType::Bool,
+            FIELD_CODE => IrType::Field,
+            STRUCT_CODE => IrType::Struct(Name::new(name)),
+            _ => IrType::Void,
+        }
     }
 }
 
 // The code of a type.
-pub fn type_code(t: IrType) -> usize
-    ensures { Coded t result }
-{
-    match t {
-        IrType::U64 => U64_CODE,
-        IrType::Bool => BOOL_CODE,
-        IrType::Field => FIELD_CODE,
-        IrType::Struct(n) => STRUCT_CODE + PER_NAME * (n.0 as usize),
-        IrType::Void => VOID_CODE,
+impl From<IrType> for u32 {
+    ghost from_gives = { Coded };
+
+    fn from(ty: IrType) -> u32 {
+        match ty {
+            IrType::U64 => U64_CODE as u32,
+            IrType::Bool => BOOL_CODE as u32,
+            IrType::Field => FIELD_CODE as u32,
+            IrType::Struct(name) => (STRUCT_CODE + PER_NAME * (name.0 as usize)) as u32,
+            IrType::Void => VOID_CODE as u32,
+        }
     }
 }
 
 // The type of a code.
-pub fn type_of_code(code: usize) -> IrType
-    ensures { as_type result ≡ type_from (code % 65536) (code / 65536 % 65536) }
-{
-    type_of(
-        (code % PER_NAME) as u16,
-        (code / PER_NAME % PER_NAME) as u16,
-    )
+impl From<u32> for IrType {
+    ghost from_gives = { λ code ty. as_type ty ≡ type_from (code % 65536) (code / 65536 % 65536) };
+
+    fn from(code: u32) -> IrType {
+        let code = code as usize;
+        IrType::from_parts((code % PER_NAME) as u16, (code / PER_NAME) as u16)
+    }
 }
 
-// What an instruction kind gives and does: one of the RESULT numbers, and one of the EFFECT numbers. Verifying reads the results;
-// the effects have no reader here. Document 01 asks for one table with both, and `kind_row` checks it over all of its rows at once.
-#[derive(Clone, Copy)]
-pub struct KindRow(pub u8, pub u8);
+// The type of an instruction's result: none, the instruction's own, its own unless that is Void, Bool, U64.
+#[derive(Clone, Copy, Debug, PartialEq, Eq)]
+pub enum ResultRule {
+    None,
+    Own,
+    OwnUnlessVoid,
+    Bool,
+    U64,
+}
 
-// The type of a result: none, the instruction's own, its own unless that is Void, Bool, U64.
-pub const RESULT_NONE: u8 = 0;
+#[derive(Clone, Copy, Debug, PartialEq, Eq)]
+pub enum Effect {
+    Pure,
+    MemoryRead,
+    MemoryWrite,
+    StateRead,
+    StateWrite,
+    ContextRead,
+    Event,
+    Call,
+}
 
-pub const RESULT_OWN: u8 = 1;
+// What an instruction kind gives and does. Verifying reads the results; the effects have no reader here.
+#[derive(Clone, Copy, Debug, PartialEq, Eq)]
+pub struct KindRow {
+    pub result: ResultRule,
+    pub effect: Effect,
+}
 
-pub const RESULT_OWN_UNLESS_VOID: u8 = 2;
-
-pub const RESULT_BOOL: u8 = 3;
-
-pub const RESULT_U64: u8 = 4;
-
-// The effects, in the order of `Effect`.
-pub const EFFECT_PURE: u8 = 0;
-
-pub const EFFECT_MEMORY_READ: u8 = 1;
-
-pub const EFFECT_MEMORY_WRITE: u8 = 2;
-
-pub const EFFECT_STATE_READ: u8 = 3;
-
-pub const EFFECT_STATE_WRITE: u8 = 4;
-
-pub const EFFECT_CONTEXT_READ: u8 = 5;
-
-pub const EFFECT_EVENT: u8 = 6;
-
-pub const EFFECT_CALL: u8 = 7;
-
-// One row for each of the 22 kinds, 60 to 81.
-const KIND_ROWS: [KindRow; 22] = [
-    KindRow(RESULT_OWN, EFFECT_PURE), // Const
-    KindRow(RESULT_OWN, EFFECT_PURE), // Add
-    KindRow(RESULT_OWN, EFFECT_PURE), // Sub
-    KindRow(RESULT_OWN, EFFECT_PURE), // Mul
-    KindRow(RESULT_OWN, EFFECT_PURE), // Div
-    KindRow(RESULT_BOOL, EFFECT_PURE), // IrEq
-    KindRow(RESULT_BOOL, EFFECT_PURE), // IrNe
-    KindRow(RESULT_BOOL, EFFECT_PURE), // Lt
-    KindRow(RESULT_BOOL, EFFECT_PURE), // Le
-    KindRow(RESULT_BOOL, EFFECT_PURE), // Gt
-    KindRow(RESULT_BOOL, EFFECT_PURE), // Ge
-    KindRow(RESULT_OWN, EFFECT_MEMORY_READ), // Load
-    KindRow(RESULT_NONE, EFFECT_MEMORY_WRITE), // Store
-    KindRow(RESULT_OWN, EFFECT_STATE_READ), // StateRead
-    KindRow(RESULT_NONE, EFFECT_STATE_WRITE), // StateWrite
-    KindRow(RESULT_OWN, EFFECT_PURE), // ReadLocal
-    KindRow(RESULT_NONE, EFFECT_MEMORY_WRITE), // WriteLocal
-    KindRow(RESULT_OWN_UNLESS_VOID, EFFECT_CALL), // Call
-    KindRow(RESULT_NONE, EFFECT_PURE), // Assert
-    KindRow(RESULT_U64, EFFECT_PURE), // Poseidon
-    KindRow(RESULT_NONE, EFFECT_EVENT), // Emit
-    KindRow(RESULT_U64, EFFECT_CONTEXT_READ), // ContextRead
+// One row for each of the 22 kinds, 60 to 81: `kind_row` checks the table over all of its rows at once.
+const KIND_ROWS: [(ResultRule, Effect); 22] = [
+    (ResultRule::Own, Effect::Pure), // Const
+    (ResultRule::Own, Effect::Pure), // Add
+    (ResultRule::Own, Effect::Pure), // Sub
+    (ResultRule::Own, Effect::Pure), // Mul
+    (ResultRule::Own, Effect::Pure), // Div
+    (ResultRule::Bool, Effect::Pure), // IrEq
+    (ResultRule::Bool, Effect::Pure), // IrNe
+    (ResultRule::Bool, Effect::Pure), // Lt
+    (ResultRule::Bool, Effect::Pure), // Le
+    (ResultRule::Bool, Effect::Pure), // Gt
+    (ResultRule::Bool, Effect::Pure), // Ge
+    (ResultRule::Own, Effect::MemoryRead), // Load
+    (ResultRule::None, Effect::MemoryWrite), // Store
+    (ResultRule::Own, Effect::StateRead), // StateRead
+    (ResultRule::None, Effect::StateWrite), // StateWrite
+    (ResultRule::Own, Effect::Pure), // ReadLocal
+    (ResultRule::None, Effect::MemoryWrite), // WriteLocal
+    (ResultRule::OwnUnlessVoid, Effect::Call), // Call
+    (ResultRule::None, Effect::Pure), // Assert
+    (ResultRule::U64, Effect::Pure), // Poseidon
+    (ResultRule::None, Effect::Event), // Emit
+    (ResultRule::U64, Effect::ContextRead), // ContextRead
 ];
 
 // The row of a kind.
-pub fn kind_row(kind: usize) -> KindRow
-    requires { (60 ≤ kind) × (kind < 82) }
-    ensures { (result.0 ≡ rule_number kind) × (result.1 ≡ effect_number kind) }
+pub fn kind_row(kind: Instruction) -> KindRow
+    ensures rule { some (rule_of result.result) ≡ rule_in (kind_row (instr_number kind)) }
+    ensures effect { some (effect_of result.effect) ≡ effect_in (kind_row (instr_number kind)) }
 {
-    KIND_ROWS[kind - FIRST_INSTRUCTION]
+    let (result, effect) = KIND_ROWS[kind as usize - FIRST_INSTRUCTION];
+    KindRow { result, effect }
 }

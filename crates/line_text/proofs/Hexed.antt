@@ -1,52 +1,40 @@
 -- One byte after another in hexadecimal, and the line of them. Assumes nothing.
-use mathlib.Core.Path.{◌≡◌, refl, sym, ap, ◌∙◌}
-use mathlib.Core.List.{List, [], ◌∷◌, ◌++◌}
-use Prim.Native.Nat.{ℕ, suc, ◌+◌, ◌-◌, ◌*◌, ◌/◌, ◌%◌, ◌≤◌, ◌<◌}
-use native.Mathlib.Numerals.{add-one}
-use native.Mathlib.Omega.{arith}
-use lib.ListN.{length, take, drop, get_or, set, replicate, length-append, length-set}
-use lib.Seq.{sets, sets-eq, length-sets, drop-cons, take_at}
-use Rattle.definitions.specs.Result.{ok}
-use Rattle.definitions.specs.Lines.{hex_digit, hexed, lowered_line}
-use Rattle.writer.proofs.Stores.{sets_append}
-use Rattle.line_text.specs.Lined.{Lined}
-use Rattle.line_text.proofs.Zeros.{cleared}
+use Rattle.std.proofs.Common.{◌≡◌, ℕ, suc, ◌+◌, ◌*◌, ◌/◌, ◌%◌, ◌≤◌, ◌<◌, List, [], ◌∷◌, ◌++◌, length, take, refl, ap, ◌∙◌, arith, length-append, length-set}
+use lib.ListN.{get_or, set}
+use lib.Seq.{take_at}
+use Rattle.std.proofs.lemmas.List.{take_more, take_more_set}
+use Rattle.definitions.specs.Lines.{hex_digit, hexed}
+use Rattle.line_text.proofs.Placed.{put_front}
 
--- the byte at i, with what is left behind it
-pub hex_front : (l from : List ℕ) (at i n d e : ℕ) → i < n → n ≤ length from → d ≡ hex_digit (get_or from i 0 / 16) → e ≡ hex_digit (get_or from i 0 % 16)
-    → sets (set (set (set l (at + 3 * i) 32) (at + 3 * i + 1) d) (at + 3 * i + 2) e) (at + 3 * (i + 1)) (hexed (take (n - (i + 1)) (drop (i + 1) from)))
-    ≡ sets l (at + 3 * i) (hexed (take (n - i) (drop i from)))
+hexed_append : (l : List ℕ) (b : ℕ) → hexed (l ++ (b ∷ [])) ≡ hexed l ++ (32 ∷ hex_digit (b / 16) ∷ hex_digit (b % 16) ∷ [])
 unfolding hexed
-hex_front l from at i n d e h k high low =
-    let less : n - i ≡ suc (n - (i + 1)) = omega arith in
-    let next : at + 3 * (i + 1) ≡ suc (suc (suc (at + 3 * i))) = omega arith in
-    let one : at + 3 * i + 1 ≡ suc (at + 3 * i) = omega arith in
-    let two : at + 3 * i + 2 ≡ suc (suc (at + 3 * i)) = omega arith in
-    rw (less, next, one, two, add-one i, drop-cons from i 0 (omega arith), high, low) refl
+hexed_append [] b = refl
+hexed_append (a ∷ l) b = ap (λ (r : List ℕ). 32 ∷ hex_digit (a / 16) ∷ hex_digit (a % 16) ∷ r) (hexed_append l b)
 
-hexed_length : (l : List ℕ) → length (hexed l) ≡ 3 * length l
+pub hexed_length : (l : List ℕ) → length (hexed l) ≡ 3 * length l
 unfolding hexed
 hexed_length [] = refl
 hexed_length (b ∷ l) = let e : length (hexed l) ≡ 3 * length l = hexed_length l in omega arith
 
--- `OK`, the bytes and a line feed, stored one after another
-accepted : (bytes text : List ℕ) (n : ℕ) → length bytes ≡ n → sets text 0 (lowered_line (ok bytes)) ≡ set (sets (set (set text 0 79) 1 75) 2 (hexed bytes)) (2 + 3 * n) 10
-accepted bytes text n e =
-    let long : length (hexed bytes) ≡ 3 * n = rw (← e) (hexed_length bytes) in
-    sets_append (hexed bytes) (10 ∷ []) (set (set text 0 79) 1 75) 2 ∙ ap (λ (k : ℕ). set (sets (set (set text 0 79) 1 75) 2 (hexed bytes)) (2 + k) 10) long
+-- the byte at i
+pub hex_next : (bytes text rest : List ℕ) (i d e : ℕ) → i < length bytes → 3 * i ≤ length text → d ≡ hex_digit (get_or bytes i 0 / 16) → e ≡ hex_digit (get_or bytes i 0 % 16)
+    → take (3 * i) text ≡ hexed (take i bytes) → take (3 * (i + 1)) (take (3 * i) text ++ ((32 ∷ d ∷ e ∷ []) ++ rest)) ≡ hexed (take (i + 1) bytes)
+hex_next bytes text rest i d e h k high low front =
+    let next : 3 * (i + 1) ≡ 3 * i + 3 = omega arith in
+    rw (next, take_more bytes i 0 h, hexed_append (take i bytes) (get_or bytes i 0), ← high, ← low, ← front) (put_front (3 * i) text (32 ∷ d ∷ e ∷ []) rest k)
 
--- what stands in the text before the line feed is stored
-pub stored_length : (bytes text m : List ℕ) → m ≡ sets (set (set text 0 79) 1 75) 2 (hexed bytes) → length m ≡ length text
-stored_length bytes text m e = ap length e ∙ length-sets (set (set text 0 79) 1 75) 2 (hexed bytes) ∙ length-set (set text 0 79) 1 75 ∙ length-set text 0 79
+-- `OK`, the bytes and a line feed
+pub accepted_front : (sheet text hex rest : List ℕ) → hex ≡ hexed sheet → 3 + 3 * length sheet ≤ length text → length rest + (2 + 3 * length sheet) ≡ length text
+    → take (2 + 3 * length sheet + 1) (set (79 ∷ 75 ∷ (hex ++ rest)) (2 + 3 * length sheet) 10) ≡ 79 ∷ 75 ∷ (hexed sheet ++ (10 ∷ []))
+accepted_front sheet text hex rest e h whole =
+    let size : length hex ≡ 3 * length sheet = ap length e ∙ hexed_length sheet in
+    let long : length (hex ++ rest) ≡ length hex + length rest = length-append hex rest in
+    let two : 2 + 3 * length sheet ≡ suc (suc (length hex)) = omega arith in
+    take_more_set (79 ∷ 75 ∷ (hex ++ rest)) (2 + 3 * length sheet) 10 (omega arith)
+    ∙ rw two (ap (λ (l : List ℕ). 79 ∷ 75 ∷ (l ++ (10 ∷ []))) (take_at hex rest (length hex) refl ∙ e))
 
-pub finished : (bytes text m last : List ℕ) (n : ℕ) → length bytes ≡ n → 3 + 3 * n ≤ length text → m ≡ sets (set (set text 0 79) 1 75) 2 (hexed bytes)
-    → last ≡ sets (set m (2 + 3 * n) 10) (2 + 3 * n + 1) (replicate (length (set m (2 + 3 * n) 10) - (2 + 3 * n + 1)) 0)
-    → Lined (length text) (lowered_line (ok bytes)) last (2 + 3 * n + 1)
-finished bytes text m last n e h p q =
-    let long : length (hexed bytes) ≡ 3 * length bytes = hexed_length bytes in
-    let all : length (hexed bytes ++ (10 ∷ [])) ≡ length (hexed bytes) + 1 = length-append (hexed bytes) (10 ∷ []) in
-    let size : length (lowered_line (ok bytes)) ≡ 2 + 3 * n + 1 = omega arith in
-    let is : set m (2 + 3 * n) 10 ≡ sets text 0 (lowered_line (ok bytes)) = ap (λ (l : List ℕ). set l (2 + 3 * n) 10) p ∙ sym (accepted bytes text n e) in
-    let front : take (2 + 3 * n + 1) (set m (2 + 3 * n) 10) ≡ lowered_line (ok bytes) = rw (is, sets-eq (lowered_line (ok bytes)) text 0 (omega arith)) (take_at (lowered_line (ok bytes)) _ (2 + 3 * n + 1) size) in
-    let long : length (set m (2 + 3 * n) 10) ≡ length text = length-set m (2 + 3 * n) 10 ∙ stored_length bytes text m p in
-    cleared (lowered_line (ok bytes)) text (set m (2 + 3 * n) 10) last (2 + 3 * n + 1) front long (omega arith) q
+pub accepted_length : (sheet text hex rest : List ℕ) → hex ≡ hexed sheet → length rest + (2 + 3 * length sheet) ≡ length text → length (set (79 ∷ 75 ∷ (hex ++ rest)) (2 + 3 * length sheet) 10) ≡ length text
+accepted_length sheet text hex rest e whole =
+    let size : length hex ≡ 3 * length sheet = ap length e ∙ hexed_length sheet in
+    let long : length (hex ++ rest) ≡ length hex + length rest = length-append hex rest in
+    length-set (79 ∷ 75 ∷ (hex ++ rest)) (2 + 3 * length sheet) 10 ∙ omega arith

@@ -1,3 +1,4 @@
+mod Placed
 mod Spaced
 pub mod Zeros
 mod Hexed

@@ -1,31 +1,36 @@
--- A line at the start of a text with zeros behind it, and numbers with zeros behind them. Assumes nothing.
-use mathlib.Core.Path.{◌≡◌, sym, ap, ◌∙◌, subst}
-use mathlib.Core.List.{List}
-use Prim.Native.Nat.{ℕ, ◌-◌, ◌≤◌}
-use native.Mathlib.Omega.{arith}
-use lib.ListN.{length, take, replicate}
-use lib.Seq.{sets, length-take-le}
+-- A line at the start of a text with zeros behind it. Assumes nothing.
+use Rattle.std.proofs.Common.{◌≡◌, ℕ, zero, suc, ◌-◌, ◌≤◌, List, [], ◌∷◌, ◌++◌, length, take, drop, refl, sym, ap, ◌∙◌, arith, length-append, length-drop, replicate}
+use Rattle.std.proofs.lemmas.List.{length-replicate}
+use native.Mathlib.Nat.{sub-zero}
+use mathlib.Core.List.{append-nil}
+use lib.Seq.{length-take-le, drop-length}
 use Rattle.definitions.specs.Answers.{padded}
-use Rattle.definitions.specs.Lines.{line_of}
-use Rattle.definitions.proofs.Results.{take_padded}
-use Rattle.writer.proofs.Stores.{padded_length, then_zeros}
 use Rattle.line_text.specs.Lined.{Lined}
 
--- m begins with the line, and has as many bytes as the text
-pub cleared : (line text m last : List ℕ) (r : ℕ) → take r m ≡ line → length m ≡ length text → r ≤ length m → last ≡ sets m r (replicate (length m - r) 0) → Lined (length text) line last r
-cleared line text m last r front long h q =
-    let e : length line ≡ r = sym (ap length front) ∙ length-take-le r m h in
-    let is : last ≡ padded (length text) line = q ∙ rw (← e, ← long) (then_zeros line m (omega arith) (rw e front)) in
-    let whole : length last ≡ length text = ap length is ∙ padded_length (length text) line in
-    record { is = is; size = sym e; inside = (omega arith, sym (length-take-le r last (omega arith))); same_length = whole }
+zeros : (n : ℕ) → padded n [] ≡ replicate n 0
+zeros zero = refl
+zeros (suc n) = ap (λ (l : List ℕ). 0 ∷ l) (zeros n)
 
--- numbers that were told with their count
-pub told : (count : ℕ) (list l : List ℕ) → (count ≡ length l) × ((list ≡ padded 6 l) × (count ≤ 6)) → take count list ≡ l
-told count list l (e, (f, h)) = rw (e, f) (take_padded 6 l (omega arith))
+padded_is : (n : ℕ) (l : List ℕ) → length l ≤ n → padded n l ≡ l ++ replicate (n - length l) 0
+padded_is n [] h = rw sub-zero (zeros n)
+padded_is zero (x ∷ l) h = absurd (omega arith)
+padded_is (suc n) (x ∷ l) h = let e : suc n - suc (length l) ≡ n - length l = omega arith in rw e (ap (λ (r : List ℕ). x ∷ r) (padded_is n l (omega arith)))
 
--- the line of numbers that are those of an answer
-abbrev Written : (text : List ℕ) (r : ℕ) → List ℕ → Type 0
-Written text r l = (text ≡ padded 128 (line_of l)) × ((r ≡ length (line_of l)) × ((r ≤ length text) × (r ≡ length (take r text))))
+-- m begins with the line
+pub cleared : (line m rest : List ℕ) (r n : ℕ) → take r m ≡ line → length m ≡ n → r ≤ n → rest ≡ replicate (n - r) 0 → Lined n line (take r m ++ rest) r
+cleared line m rest r n front long h z =
+    let size : length line ≡ r = sym (ap length front) ∙ length-take-le r m (omega arith) in
+    let many : length rest ≡ n - r = ap length z ∙ length-replicate (n - r) 0 in
+    let is : take r m ++ rest ≡ padded n line = rw (front, z, ← size) (sym (padded_is n line (omega arith))) in
+    let whole : length (take r m ++ rest) ≡ n = length-append (take r m) rest ∙ omega (arith, many, ap length front) in
+    record { is = is; size = sym size; inside = (omega arith, sym (length-take-le r (take r m ++ rest) (omega arith))); same_length = whole }
 
-pub written : {text : List ℕ} {r : ℕ} (l m : List ℕ) → l ≡ m → Written text r l → Written text r m
-written {text} {r} l m e w = subst (λ (k : List ℕ). Written text r k) e w
+-- the rest is filled with zeros
+pub filled : (line m rest : List ℕ) (r n : ℕ) → take r m ≡ line → length m ≡ n → r ≤ n → rest ≡ replicate (length (take (length m - r) (drop r m))) 0
+    → Lined n line (take r m ++ (rest ++ drop (length m - r) (drop r m))) r
+filled line m rest r n front long h z =
+    let size : length (drop r m) ≡ length m - r = length-drop r m in
+    let none : drop (length m - r) (drop r m) ≡ [] = rw (← size) (drop-length (drop r m)) in
+    let many : length (take (length m - r) (drop r m)) ≡ n - r = length-take-le (length m - r) (drop r m) (omega arith) ∙ ap (λ (k : ℕ). k - r) long in
+    let all : rest ++ drop (length m - r) (drop r m) ≡ replicate (n - r) 0 = rw (none, append-nil) (z ∙ ap (λ (k : ℕ). replicate k 0) many) in
+    cleared line m (rest ++ drop (length m - r) (drop r m)) r n front long h all

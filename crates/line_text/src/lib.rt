@@ -1,102 +1,89 @@
 // The text of a line: numbers in decimal digits, bytes in hexadecimal ones, and zeros behind it.
 #![tactic(auto)]
 
-ghost use Rattle.std.specs.Prelude.{◌≡◌, ◌+◌, ◌*◌, ◌≤◌, ◌<◌, length, take};
-ghost use Rattle.std.proofs.lemmas.List.Edits.{sets};
+ghost use Rattle.std.specs.Prelude.{◌≡◌, ◌+◌, ◌*◌, ◌≤◌, ◌<◌, length};
 ghost use Rattle.definitions.specs.Result.{ok};
 ghost use Rattle.definitions.specs.Lines.{hex_digit, hexed, line_of, lowered_line};
-ghost use Rattle.line_text.specs.Lined.{Begins, Lined};
+ghost use Rattle.line_text.specs.Lined.{NumberPut, Begins, Lined};
 
-use digits::put_digits;
-use writer::clear;
+use itoa::Buffer;
+use numbers::Numbers;
 
 const SPACE: u8 = b' ';
 
-const LINE_FEED: u8 = 10;
+const LINE_FEED: u8 = b'\n';
 
-const LETTER_O: u8 = b'O';
-
-const LETTER_K: u8 = b'K';
-
-// Puts the first `count` of the list into `out` as a line: in decimal, separated by single spaces, with a line feed. Gives the line's length.
-fn put_numbers(count: usize, list: [usize; 6], out: &mut [u8]) -> usize
-    requires { (0 < count) × (count ≤ 6) × (length list ≡ 6) × (128 ≤ length out.old) }
-    ensures { Begins (line_of (take count list)) out.old out.new result }
+// Puts a number at a place of `out`, in decimal, and gives the place behind it.
+fn put_number(number: usize, out: &mut [u8], at: usize) -> usize
+    requires { at + 20 ≤ length out.old }
+    ensures { NumberPut number out.old at out.new result }
 {
-    let mut at = put_digits(out, 0, digits::MOST, list[0]);
-    let mut i = 1;
-    while i < count {
+    let mut buffer = Buffer::new();
+    let text = buffer.format(number).as_bytes();
+    let end = at + text.len();
+    out[at..end].copy_from_slice(text);
+    end
+}
+
+// Puts the line of the numbers at the start of `out`: in decimal, separated by single spaces, or `OK` if there are none. Gives the line's length.
+fn put_numbers(numbers: &[usize], out: &mut [u8]) -> usize
+    requires { (length numbers.now ≤ 6) × (128 ≤ length out.old) }
+    ensures { Begins (line_of numbers.now) out.old out.new result }
+{
+    let Some((first, details)) = numbers.split_first() else {
+        out[..3].copy_from_slice(b"OK\n");
+        return 3;
+    };
+    let mut at = put_number(*first, out, 0);
+    for detail in details {
         out[at] = SPACE;
-        at = put_digits(out, at + 1, digits::MOST, list[i]);
-        i += 1;
+        at = put_number(*detail, out, at + 1);
     }
     out[at] = LINE_FEED;
     at + 1
 }
 
-// The same for any count: the line is `OK` if there are none.
-fn put_front(count: usize, list: [usize; 6], out: &mut [u8]) -> usize
-    requires { 128 ≤ length out.old }
-    ensures { Begins (line_of (take count list)) out.old out.new result }
-{
-    if count == 0 {
-        out[0] = LETTER_O;
-        out[1] = LETTER_K;
-        out[2] = LINE_FEED;
-        return 3;
-    }
-    if 6 < count {
-        return put_numbers(6, list, out);
-    }
-    put_numbers(count, list, out)
-}
-
 // The same, with zeros behind it.
-pub fn put_line(count: usize, list: [usize; 6], out: &mut [u8]) -> usize
+pub fn put_line(numbers: &Numbers, out: &mut [u8]) -> usize
     requires { 128 ≤ length out.old }
-    ensures { Lined (length out.old) (line_of (take count list)) out.new result }
+    ensures { Lined (length out.old) (line_of numbers.now) out.new result }
 {
-    let end = put_front(count, list, out);
-    clear(out, end);
+    let end = put_numbers(numbers.as_slice(), out);
+    out[end..].fill(0);
     end
 }
 
-// The code of a hexadecimal digit.
+// A hexadecimal digit. `hex` prints into a slice only the small letters.
 fn hex_digit(d: u8) -> u8
     requires { d < 16 }
     ensures { result ≡ hex_digit d }
 {
-    if d < 10 { 48 + d } else { 55 + d }
+    if d < 10 { b'0' + d } else { b'A' - 10 + d }
 }
 
-// Puts the first n bytes of `from` into `text` from a place on, each as a space and two digits.
-fn put_hex(from: &[u8], n: usize, text: &mut [u8], at: usize)
-    requires { (n ≤ length from.now) × (at + 3 * n ≤ length text.old) }
-    ensures { text.new ≡ sets text.old at (hexed (take n from.now)) }
+// Puts each byte as a space and two digits.
+fn put_hex(bytes: &[u8], text: &mut [u8])
+    requires { length text.old ≡ 3 * length bytes.now }
+    ensures { text.new ≡ hexed bytes.now }
 {
-    let mut i = 0;
-    while i < n {
-        let b = from[i];
-        let space = at + 3 * i;
-        let high = space + 1;
-        let low = space + 2;
-        text[space] = SPACE;
-        text[high] = hex_digit(b / 16);
-        text[low] = hex_digit(b % 16);
-        i += 1;
+    for (i, byte) in bytes.iter().enumerate() {
+        text[3 * i..3 * i + 3].copy_from_slice(&[
+            SPACE,
+            hex_digit(byte / 16),
+            hex_digit(byte % 16),
+        ]);
     }
 }
 
-// Puts the line of a sheet, the first n bytes of `from`, into `text`, with zeros behind it, and gives its length.
-pub fn accepted_line(from: &[u8], n: usize, text: &mut [u8]) -> usize
-    requires { (n ≤ length from.now) × (3 + 3 * n ≤ length text.old) }
-    ensures { Lined (length text.old) (lowered_line (ok (take n from.now))) text.new result }
+// Puts the line of a sheet into `text`, with zeros behind it, and gives its length.
+pub fn accepted_line(sheet: &[u8], text: &mut [u8]) -> usize
+    requires { 3 + 3 * length sheet.now ≤ length text.old }
+    ensures { Lined (length text.old) (lowered_line (ok sheet.now)) text.new result }
 {
-    text[0] = LETTER_O;
-    text[1] = LETTER_K;
-    put_hex(from, n, text, 2);
-    let end = 2 + 3 * n;
+    let end = 2 + 3 * sheet.len();
+    text[..2].copy_from_slice(b"OK");
+    put_hex(sheet, &mut text[2..end]);
     text[end] = LINE_FEED;
-    clear(text, end + 1);
+    text[end + 1..].fill(0);
     end + 1
 }

@@ -12,14 +12,9 @@ use Rattle.definitions.specs.Result.{Result, err, ok, map_err}
 use Rattle.definitions.specs.Lower.{lower_contract}
 use Rattle.definitions.specs.ContractSheet.{read_contract}
 use Rattle.definitions.specs.ProgramSheet.{write_program}
-use Rattle.definitions.specs.Answers as answers
-use Rattle.definitions.specs.Answers.{Refusal, refusal, check_contract, lower_refusal, lower_sheet, length_of, length_numbers, output_of, padded}
+use Rattle.definitions.specs.Answers.{Answer, Refusal, refusal, check_contract, lower_refusal, lower_sheet, length_of, length_numbers, output_of}
 use Rattle.definitions.specs.Lines.{line_of, lowered_line}
 use Rattle.definitions.proofs.Results.{ok_inj, err_ok, taking, taking_then, taking_check, both_true, take_padded}
-use Rattle.lower.specs.Whole.{answer_of}
-use Rattle.lower.specs.declared.Answer.{Answer}
-use Rattle.lower.specs.declared.Answer.TheVariants as answer
-use Rattle.line_text.specs.Lined.{Lined}
 
 -- an accepted sheet has 32,768 bytes at most
 pub fits : (s : List ℕ) (room : ℕ) (b : List ℕ) → lower_sheet s room ≡ ok b → length b ≤ 32768
@@ -34,33 +29,18 @@ fits s room b e =
 pub accepted_fits : (s : List ℕ) (room n : ℕ) → ok n ≡ length_of (lower_sheet s room) → n ≤ 32768
 accepted_fits s room n e = go (lower_sheet s room) refl e
   where
-    go : (a : answers.Answer) → lower_sheet s room ≡ a → ok n ≡ length_of a → n ≤ 32768
+    go : (a : Answer) → lower_sheet s room ≡ a → ok n ≡ length_of a → n ≤ 32768
     go (ok b) q e = let k : n ≡ length b = ok_inj e in let h : length b ≤ 32768 = fits s room b q in omega arith
     go (err x) q e = absurd (err_ok (sym e))
 
-pub accepted_line_is : (a : answers.Answer) (out : List ℕ) (size n : ℕ) → n ≤ size → ok n ≡ length_of a → out ≡ output_of a size → lowered_line (ok (take n out)) ≡ lowered_line a
+pub accepted_line_is : (a : Answer) (out : List ℕ) (size n : ℕ) → n ≤ size → ok n ≡ length_of a → out ≡ output_of a size → lowered_line (ok (take n out)) ≡ lowered_line a
 accepted_line_is (ok b) out size n h e q =
     let k : n ≡ length b = ok_inj e in
     let there : take n out ≡ b = rw (q, k) (take_padded size b (omega arith)) in
     ap (λ (l : List ℕ). lowered_line (ok l)) there
 accepted_line_is (err x) out size n h e q = absurd (err_ok (sym e))
 
--- REFUSED: an answer that is none of `Accepted`
-not_accepted : (r : Answer) → ((k : ℕ) → r ≡ answer.Accepted k → ⊥) → (n : ℕ) → answer_of r ≡ ok n → ⊥
-not_accepted (answer.Accepted k) h n e = h k refl
-not_accepted answer.TooLong h n e = err_ok e
-not_accepted (answer.Malformed p) h n e = err_ok e
-not_accepted (answer.OverLimit p) h n e = err_ok e
-not_accepted (answer.Refused x) h n e = err_ok e
-not_accepted answer.NoRoom h n e = err_ok e
-
-pub refused_line_is : (a : answers.Answer) (r : Answer) → ((k : ℕ) → r ≡ answer.Accepted k → ⊥) → answer_of r ≡ length_of a → line_of (length_numbers (answer_of r)) ≡ lowered_line a
-refused_line_is (ok b) r h e = absurd (not_accepted r h (length b) e)
-refused_line_is (err x) r h e = ap (λ (o : Result Refusal ℕ). line_of (length_numbers o)) e
-
--- WHAT IS LEFT in an output of m bytes and a text of n bytes, and the line's length
-abbrev pub Wrote : (n m : ℕ) (s out text : List ℕ) → ℕ → Type 0
-Wrote n m s out text r = (text ≡ padded n (lowered_line (lower_sheet s m))) × ((r ≡ length (lowered_line (lower_sheet s m))) × (((r ≤ length text) × (r ≡ length (take r text))) × (out ≡ output_of (lower_sheet s m) m)))
-
-pub wrote : (n m n' m' : ℕ) (s out text line : List ℕ) (r : ℕ) → n' ≡ n → m' ≡ m → line ≡ lowered_line (lower_sheet s m') → out ≡ output_of (lower_sheet s m') m' → Lined n' line text r → Wrote n m s out text r
-wrote n m n' m' s out text line r p q e o h = let g = rw (p, e) at h in subst (λ (k : ℕ). Wrote n k s out text r) q (g.is, (g.size, (g.inside, o)))
+-- REFUSED
+pub refused_line_is : (a : Answer) (x : Refusal) → err x ≡ length_of a → line_of (length_numbers (err x)) ≡ lowered_line a
+refused_line_is (ok b) x e = absurd (err_ok e)
+refused_line_is (err y) x e = ap (λ (o : Result Refusal ℕ). line_of (length_numbers o)) e

@@ -1,4 +1,5 @@
 -- Parts laid down one behind the other, and the head in front of them. Assumes nothing.
+use Rattle.std.specs.Prelude as code
 use mathlib.Core.Path.{◌≡◌, refl, sym, ap, ◌∙◌}
 use mathlib.Core.Bool.{true, false, ◌&&◌}
 use mathlib.Core.List.{List, [], ◌++◌, append_assoc}
@@ -15,8 +16,8 @@ use Rattle.definitions.proofs.Results.{by_test}
 use Rattle.writer.proofs.Stores.{sets_append}
 use Rattle.lower_layout.specs.Laid.{room_of, Laid}
 use Rattle.lower.specs.Whole.{Filled, program_answer, AnsweredWith}
-use Rattle.lower.specs.declared.Answer.{Answer}
-use Rattle.lower.specs.declared.Answer.TheVariants as answer
+use Rattle.lower.specs.declared.refusal.Refusal as lowering
+use Rattle.lower.specs.declared.refusal.Refusal.TheVariants as lower_refused
 
 -- one number is at most another, or over it
 pub either : {G : Type 0} (a b : ℕ) → (a ≤ b → G) → (b < a → G) → G
@@ -83,10 +84,10 @@ in_room : (n k : ℕ) → k ≤ room_of n → (leb k 32768 && leb k n) ≡ true
 in_room n k h = let w = room_low n in rw (le-leb k 32768 (omega (arith, w.0)), le-leb k n (omega (arith, w.1)))
 
 module _ {body before out : List ℕ} {to : ℕ} (f : Filled body before 6 out to) where
-  abbrev Done : List ℕ → Answer → Type 0
+  abbrev Done : List ℕ → code.Result ℕ lowering.Refusal → Type 0
   Done after r = AnsweredWith (program_answer body (length before)) (length before) after r
 
-  pub refused_31 : room_of (length out) < to → Done out answer.NoRoom
+  pub refused_31 : room_of (length out) < to → Done out (code.Err lower_refused.NoRoom)
   refused_31 h =
       either (6 + length body) (room_of (length before))
       (λ l. absurd (omega (arith, (f.fits l).1, rw f.same_length at h)))
@@ -97,7 +98,7 @@ module _ {body before out : List ℕ} {to : ℕ} (f : Filled body before 6 out t
   abbrev headed_out : List ℕ
   headed_out = sets (sets out 0 (bytes 4 to)) 4 (bytes 2 50)
 
-  fitted : 6 + length body ≤ room_of (length before) → Done headed_out (answer.Accepted to)
+  fitted : 6 + length body ≤ room_of (length before) → Done headed_out (code.Ok to)
   unfolding write_record bytes
   fitted l =
       let e : to ≡ 6 + length body = (f.fits l).1 in
@@ -108,7 +109,7 @@ module _ {body before out : List ℕ} {to : ℕ} (f : Filled body before 6 out t
       let t : take (6 + length body) headed_out ≡ write_record 50 body = ap (take (6 + length body)) s ∙ headed before body (bytes 4 to ++ bytes 2 50) refl (omega (arith, l, w)) ∙ rw e refl in
       record { is = rw i (ap ok (e ∙ sym (record_length body))); same_length = n; holds = rw i (rw (n, record_length body) (omega (arith, l, w)), rw (record_length body) t) }
 
-  pub accepted : to ≤ room_of (length out) → Done headed_out (answer.Accepted to)
+  pub accepted : to ≤ room_of (length out) → Done headed_out (code.Ok to)
   accepted h = either (6 + length body) (room_of (length before)) fitted (λ l. absurd (omega (arith, f.over l, rw f.same_length at h)))
 
   pub below_six : to < 6 → room_of (length out) < to

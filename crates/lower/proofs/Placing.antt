@@ -1,4 +1,5 @@
 -- From the walk of a function to its record at its place, and from the functions placed so far to all of them. Assumes nothing.
+use Rattle.std.specs.Prelude as code
 use mathlib.Core.Path.{◌≡◌, refl, sym, ap, ◌∙◌, subst}
 use mathlib.Core.List.{List, [], ◌∷◌, ◌++◌, append_assoc, append-nil}
 use Prim.Native.Nat.{ℕ, zero, suc, ◌+◌, ◌-◌, ◌≤◌, ◌<◌}
@@ -37,8 +38,6 @@ use Rattle.lower_functions.specs.Walked.{StepSound, FunctionWalked}
 use Rattle.lower.specs.Whole.{Filled, FunctionPlaced, FunctionsPlaced}
 use Rattle.lower_flow.specs.declared.Step.{Step}
 use Rattle.lower_flow.specs.declared.Step.TheVariants as step
-use Rattle.lower.specs.declared.Placed.{Placed}
-use Rattle.lower.specs.declared.Placed.TheVariants as placed
 use Rattle.lower.proofs.Fill.{either, room_low, filled_of, nothing, then_filled}
 
 -- A FUNCTION: what its walk came to, and its record
@@ -92,7 +91,7 @@ module _ {s : List ℕ} {at : ℕ} (R : Ready Class.function s at 39) {i : ℕ} 
     within h = rw (le-leb c.to 32768 h) at (walked.1.1.ordered (low h))
 
     -- laid down from a log that fits, or lost
-    pub put : {before after : List ℕ} {to p : ℕ} → (c.to ≤ 32768 → Laid (record_of s at i log tables' c) before to after p) → (32768 < c.to → (length after ≡ length before) × (p ≡ 32769)) → FunctionPlaced (read_contract s) i (function_at s at) before to after (placed.To p)
+    pub put : {before after : List ℕ} {to p : ℕ} → (c.to ≤ 32768 → Laid (record_of s at i log tables' c) before to after p) → (32768 < c.to → (length after ≡ length before) × (p ≡ 32769)) → FunctionPlaced (read_contract s) i (function_at s at) before to after (code.Ok p)
     put {before} {after} {to} {p} fits lost = (walked.0, (walked.1.0, either c.to 32768 (λ h. rw (walked.1.1.kept (low h)) (filled_of (fits h))) over))
       where
         over : 32768 < c.to → Filled (write_tree (ir_function_tree walked.0)) before to after p
@@ -158,7 +157,7 @@ module _ {s before after : List ℕ} {to i at : ℕ} (A : Along s before after t
   onward : {fs : List Function} → Left s at ≡ fs → lower_functions (read_contract s) 0 (read_contract s).functions ≡ (lower_functions (read_contract s) i fs >>= λ hs. ok (A.gs ++ hs))
   onward e = subst (λ (fs : List Function). lower_functions (read_contract s) 0 (read_contract s).functions ≡ (lower_functions (read_contract s) i fs >>= λ hs. ok (A.gs ++ hs))) e A.left
 
-  pub ends : length s ≤ at → FunctionsPlaced (read_contract s) before after (placed.To to)
+  pub ends : length s ≤ at → FunctionsPlaced (read_contract s) before after (code.Ok to)
   unfolding lower_functions
   ends h =
       let e : at ≡ length s = omega (arith, A.within) in
@@ -190,10 +189,10 @@ module _ {s before after : List ℕ} {to i at : ℕ} (A : Along s before after t
       here : Left s at ≡ function_at s at ∷ Left s (stop_of s at)
       here = ap (gather 4 4 function_of) top.read ∙ gather_here 4 function_of (tree_at s at) (read_records s (stop_of s at) (length s)) k
 
-      pub one_more : {later : List ℕ} {r : ℕ} (p : Placed) → FunctionPlaced (read_contract s) i (function_at s at) after to later p → p ≡ placed.To r → Along s before later r (i + 1) (stop_of s at)
+      pub one_more : {later : List ℕ} {r : ℕ} (p : code.Result ℕ LoweringError) → FunctionPlaced (read_contract s) i (function_at s at) after to later p → p ≡ code.Ok r → Along s before later r (i + 1) (stop_of s at)
       one_more {later} {r} p h q = go (subst (FunctionPlaced (read_contract s) i (function_at s at) after to later) q h)
         where
-          go : FunctionPlaced (read_contract s) i (function_at s at) after to later (placed.To r) → Along s before later r (i + 1) (stop_of s at)
+          go : FunctionPlaced (read_contract s) i (function_at s at) after to later (code.Ok r) → Along s before later r (i + 1) (stop_of s at)
           go (g, (e, f)) =
               let w : top.next.before.functions ≡ i + 1 = rw (eq-eqb (record_kind s at) 4 k) at counted in
               record {
@@ -205,7 +204,7 @@ module _ {s before after : List ℕ} {to i at : ℕ} (A : Along s before after t
                 filled = rw (trees_then ir_function_tree A.gs g) (then_filled A.filled f);
               }
 
-      pub refuses : (later : List ℕ) (x : LoweringError) (p : Placed) → FunctionPlaced (read_contract s) i (function_at s at) after to later p → p ≡ placed.Refused x → FunctionsPlaced (read_contract s) before later (placed.Refused x)
+      pub refuses : (later : List ℕ) (x : LoweringError) (p : code.Result ℕ LoweringError) → FunctionPlaced (read_contract s) i (function_at s at) after to later p → p ≡ code.Err x → FunctionsPlaced (read_contract s) before later (code.Err x)
       refuses later x p h q =
           let f = subst (FunctionPlaced (read_contract s) i (function_at s at) after to later) q h in
           (onward here ∙ not_lowered (read_contract s) i (function_at s at) (Left s (stop_of s at)) A.gs f.0, f.1 ∙ A.filled.same_length)

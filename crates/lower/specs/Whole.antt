@@ -1,6 +1,7 @@
 -- The parts of lowering that lead from the walk of each function to the answer. Untrusted, but for `answer_of`, which gives document
 -- 01's number and values for each answer.
 use Rattle.std.specs.Prelude.{ℕ, ◌+◌, ◌≤◌, ◌<◌, ◌≡◌, ◌&&◌, List, [], ◌∷◌, leb, length, take}
+use Rattle.std.specs.Prelude as code
 use Rattle.std.proofs.lemmas.List.Edits.{sets}
 use Rattle.definitions.specs.Result.{Result, err, ok, ◌>>=◌, ◌>>◌, map_err, check}
 use Rattle.definitions.specs.Ast.{Function, Contract}
@@ -10,12 +11,13 @@ use Rattle.definitions.specs.Records.{tnil, write_tree, write_trees, write_recor
 use Rattle.definitions.specs.ProgramSheet.{ir_function_tree, write_program}
 use Rattle.definitions.specs.Answers as answers
 use Rattle.definitions.specs.Answers.{Refusal, refusal, lower_refusal, length_of}
+use Rattle.ir.specs.Answers.{result_of}
+use Rattle.sheet.specs.Forms as forms
 use Rattle.lower_state.specs.Errors.{error_of}
+use Rattle.lower_state.specs.declared.LoweringError.{LoweringError}
 use Rattle.lower_layout.specs.Laid.{room_of}
-use Rattle.lower.specs.declared.Placed.{Placed}
-use Rattle.lower.specs.declared.Placed.TheVariants as placed
-use Rattle.lower.specs.declared.Answer.{Answer}
-use Rattle.lower.specs.declared.Answer.TheVariants as answer
+use Rattle.lower.specs.declared.refusal.Refusal as lowering
+use Rattle.lower.specs.declared.refusal.Refusal.TheVariants as refused
 
 -- FUNCTIONS: like Laid, but any place over the room says that something did not fit
 pub record Filled (x before : List ℕ) (to : ℕ) (after : List ℕ) (r : ℕ) : Type 0 where
@@ -24,22 +26,22 @@ pub record Filled (x before : List ℕ) (to : ℕ) (after : List ℕ) (r : ℕ) 
   pub over : room_of (length before) < to + length x → room_of (length before) < r
 
 -- the function f with id i
-abbrev pub FunctionPlaced : Contract → ℕ → Function → (before : List ℕ) (to : ℕ) (after : List ℕ) → Placed → Type 0
-FunctionPlaced K i f before to after (placed.To r) = (g : IrFunction) × ((lower_function K i f ≡ ok g) × Filled (write_tree (ir_function_tree g)) before to after r)
-FunctionPlaced K i f before to after (placed.Refused e) = (lower_function K i f ≡ err (error_of e)) × (length after ≡ length before)
+abbrev pub FunctionPlaced : Contract → ℕ → Function → (before : List ℕ) (to : ℕ) (after : List ℕ) → code.Result ℕ LoweringError → Type 0
+FunctionPlaced K i f before to after (code.Ok r) = (g : IrFunction) × ((lower_function K i f ≡ ok g) × Filled (write_tree (ir_function_tree g)) before to after r)
+FunctionPlaced K i f before to after (code.Err e) = (lower_function K i f ≡ err (error_of e)) × (length after ≡ length before)
 
-abbrev pub FunctionsPlaced : Contract → (before after : List ℕ) → Placed → Type 0
-FunctionsPlaced K before after (placed.To r) = (gs : List IrFunction) × ((lower_functions K 0 K.functions ≡ ok gs) × Filled (write_trees (treesOf ir_function_tree gs tnil)) before 6 after r)
-FunctionsPlaced K before after (placed.Refused e) = (lower_functions K 0 K.functions ≡ err (error_of e)) × (length after ≡ length before)
+abbrev pub FunctionsPlaced : Contract → (before after : List ℕ) → code.Result ℕ LoweringError → Type 0
+FunctionsPlaced K before after (code.Ok r) = (gs : List IrFunction) × ((lower_functions K 0 K.functions ≡ ok gs) × Filled (write_trees (treesOf ir_function_tree gs tnil)) before 6 after r)
+FunctionsPlaced K before after (code.Err e) = (lower_functions K 0 K.functions ≡ err (error_of e)) × (length after ≡ length before)
 
 -- ANSWERS: document 01's number and values for each
-abbrev pub answer_of : Answer → Result Refusal ℕ
-answer_of (answer.Accepted n) = ok n
-answer_of answer.TooLong = err (refusal 1 [])
-answer_of (answer.Malformed p) = err (refusal 3 (p ∷ []))
-answer_of (answer.OverLimit p) = err (refusal 4 (p ∷ []))
-answer_of (answer.Refused e) = err (lower_refusal (error_of e))
-answer_of answer.NoRoom = err (refusal 31 [])
+abbrev pub refusal_of : lowering.Refusal → Refusal
+refusal_of (refused.Contract e) = forms.refusal_of e
+refusal_of (refused.Lowering e) = lower_refusal (error_of e)
+refusal_of refused.NoRoom = refusal 31 []
+
+abbrev pub answer_of : code.Result ℕ lowering.Refusal → Result Refusal ℕ
+answer_of r = result_of refusal_of (λ n. n) r
 
 -- what `lower_sheet` does after its checks
 unfoldable pub lower_rest : Contract → (room : ℕ) → answers.Answer
@@ -54,7 +56,7 @@ StartsWith (ok b) out = (length b ≤ length out) × (take (length b) out ≡ b)
 StartsWith (err r) out = Unit {0}
 
 -- an answer, and an output of n bytes that begins with what is written
-pub record AnsweredWith (a : answers.Answer) (n : ℕ) (out : List ℕ) (r : Answer) : Type 0 where
+pub record AnsweredWith (a : answers.Answer) (n : ℕ) (out : List ℕ) (r : code.Result ℕ lowering.Refusal) : Type 0 where
   pub is : answer_of r ≡ length_of a
   pub same_length : length out ≡ n
   pub holds : StartsWith a out
@@ -65,7 +67,7 @@ program_answer body room = do
   check (leb (length (write_record 50 body)) 32768 && leb (length (write_record 50 body)) room) (refusal 31 [])
   ok (write_record 50 body)
 
-abbrev pub Finished : List ℕ → (n : ℕ) → List ℕ → Answer → Type 0
+abbrev pub Finished : List ℕ → (n : ℕ) → List ℕ → code.Result ℕ lowering.Refusal → Type 0
 Finished body n out r = AnsweredWith (program_answer body n) n out r
 
 -- how much is written

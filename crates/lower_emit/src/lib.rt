@@ -13,7 +13,7 @@ ghost use Rattle.lower_emit.specs.Bytes.{record_bytes, call_bytes, terminator_by
 ghost use Rattle.lower_emit.specs.Emitted.{ids_of, pushed_at, moved_to, Pushes, Appends, Closes};
 
 use format::{ABSENT, MOST, kinds, operators, program};
-use ir::{BlockId, FunctionId, IrType, LocalId, Name, U64_CODE, VOID_CODE, ValueId, type_code};
+use ir::{BlockId, FunctionId, IrType, LocalId, Name, U64_CODE, VOID_CODE, ValueId};
 use lower_counters::{CountedValue, next_value};
 use lower_state::{FnCtx, LOST, Log};
 
@@ -160,7 +160,7 @@ pub fn emit_binary(
         ctx.to,
         binary_kind(op),
         first.0,
-        Part(4, type_code(ty)),
+        Part(4, u32::from(ty) as usize),
         Part(2, left),
         Part(2, right),
         0,
@@ -233,7 +233,7 @@ pub fn emit_read_local(log: &mut Log, ctx: FnCtx, local: LocalId, ty: IrType) ->
         kinds::READ_LOCAL,
         first.0,
         Part(2, local.0 as usize),
-        Part(4, type_code(ty)),
+        Part(4, u32::from(ty) as usize),
         NOTHING,
         0,
     );
@@ -296,7 +296,15 @@ pub fn emit_call(
 {
     let taken = next_value(ctx.counters);
     let first = taken.id;
-    let to = put_call(log, ctx.to, first.0, function, type_code(ty), args, n);
+    let to = put_call(
+        log,
+        ctx.to,
+        first.0,
+        function,
+        u32::from(ty) as usize,
+        args,
+        n,
+    );
     after_value(ctx, taken, to)
 }
 

@@ -19,7 +19,7 @@ use Rattle.definitions.specs.Sema.{function_named}
 use Rattle.sheet.specs.Passed.{stop_of}
 use Rattle.contract_nodes.specs.Ready.{expr_at, exprs_from, ReadyAll}
 use Rattle.contract_nodes.proofs.Children.{no_more, nothing_at}
-use Rattle.contract_nodes.proofs.Exprs.{CallAt}
+use Rattle.contract_nodes.proofs.ExprPlaces.{CallAt}
 use Rattle.lower_walk.specs.Held.{Held}
 use Rattle.lower_walk.specs.Log.{Log}
 use Rattle.lower_walk.specs.Exprs.{Walked, walk_user_call, walk_call, walk_expr, walk_args}

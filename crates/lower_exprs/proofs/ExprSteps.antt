@@ -16,7 +16,7 @@ use Rattle.ir.specs.declared.IrType.{IrType}
 use Rattle.ir.specs.Types.{as_type}
 use Rattle.sheet.specs.Passed.{record_kind}
 use Rattle.contract_nodes.specs.Ready.{expr_at, Ready}
-use Rattle.contract_nodes.proofs.Exprs.{last_kind, int_at, ident_at, storage_at, mapping_at, access_at, struct_at, binary_at}
+use Rattle.contract_nodes.proofs.ExprPlaces.{last_kind, int_at, ident_at, storage_at, mapping_at, access_at, struct_at, binary_at}
 use Rattle.lower_walk.specs.Held.{Held}
 use Rattle.lower_walk.specs.Log.{Log}
 use Rattle.lower_walk.specs.Exprs.{Walked, push_value, need_value, walk_ident, walk_storage_read, walk_expr, walk_expr_value}

@@ -9,7 +9,7 @@ ghost use Rattle.sheet.specs.Passed.{ContractPassed};
 ghost use Rattle.lower_values.specs.Values.{lowered_in, valued_in, LoweredSame, ValuedSame};
 ghost use Rattle.lower_exprs.specs.Exprs.{expr_on, expr_value_on};
 
-use contract_lookup::name_at;
+use contract_lookup::by_place::name_at;
 use format::{KIND, contract, kinds};
 use ir::ValueId;
 use lower_counters::Counters;

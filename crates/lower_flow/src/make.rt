@@ -6,7 +6,7 @@ ghost use Rattle.lower_state.specs.State.{Sound};
 ghost use Rattle.lower_flow.specs.Flows.{MakesBlocks, MakesLocal};
 
 use crate::{Blocks, MadeBlocks, MadeLocal};
-use ir::{IrType, ValueId, type_code};
+use ir::{IrType, ValueId};
 use lower_counters::{next_block, next_local};
 use lower_state::{
     FnCtx, Log, LoweringError, MOST_BLOCKS, MOST_LOCALS, TYPES, Tables, with_counters,
@@ -65,7 +65,7 @@ pub fn init_local(
     let taken = next_local(counters);
     let local = taken.id;
     let k = TYPES + local.0 as usize;
-    tables[k] = type_code(ty) as u32;
+    tables[k] = u32::from(ty);
     let next = with_counters(ctx, taken.counters);
     MadeLocal::Made(lower_emit::emit_write_local(log, next, local, value), local)
 }

@@ -12,9 +12,10 @@ ghost use Rattle.lower_state.specs.State.{locals_of, starts_of, stops_of, Sound}
 ghost use Rattle.lower_layout.specs.Laid.{room_of, Laid};
 ghost use Rattle.lower_layout.specs.Stored.{Put, blocks_size, BlocksWithin, Kept, record_of, blocks_part, head_of, head_size, LaidOrLost};
 
+use contract_lookup::by_place::opt_name;
 use contract_lookup::types::{own_return_type, parse_ir_type};
 use format::{ID, KIND, MOST, TYPE, contract, kinds, program};
-use ir::{BlockId, FunctionId, Name, type_code, type_of_code};
+use ir::{BlockId, FunctionId, IrType, Name};
 use lower_state::{FnCtx, LOST, Log, STARTS, STOPS, TYPES, Tables};
 use reader::{read, read_u16};
 use writer::{copy, write};
@@ -113,7 +114,7 @@ fn lay_params(s: &[u8], at: usize, n: usize, out: &mut [u8], to: usize) -> usize
     let mut i = 0;
     while i < n {
         let from = at + contract::PARAMS + contract::PARAM * i + contract::PARAM_TYPE;
-        let code = type_code(parse_ir_type(Name::new(read_u16(s, from))));
+        let code = u32::from(parse_ir_type(Name::new(read_u16(s, from)))) as usize;
         write(out, place, 2, i);
         write(out, place + ID, 4, code);
         place += program::PARAM;
@@ -132,7 +133,7 @@ fn lay_locals(n: usize, tables: &[u32], out: &mut [u8], to: usize) -> usize
     let mut i = 0;
     while i < n {
         let k = TYPES + i;
-        let code = type_code(type_of_code(tables[k] as usize));
+        let code = u32::from(IrType::from(tables[k])) as usize;
         write(out, place, 4, code);
         place += TYPE;
         i += 1;
@@ -163,7 +164,8 @@ fn lay_head(
         2,
         read(s, at + contract::NAME, 2),
     );
-    let code = type_code(own_return_type(read_u16(s, at + contract::RETURN_TYPE)));
+    let name = read_u16(s, at + contract::RETURN_TYPE);
+    let code = u32::from(own_return_type(opt_name(name))) as usize;
     write(out, to + program::RETURN_TYPE, 4, code);
     let params = read(s, at + contract::PARAM_COUNT, 2);
     let place = lay_params(s, at, params, out, to + program::PARAM_COUNT);

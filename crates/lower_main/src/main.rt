@@ -5,7 +5,6 @@
 // bytes: from the sheet in the buffer to the line in `text`.
 #![tactic(auto)]
 
-use console::Input;
 use format::MOST;
 use lines::LOWERED_LINE;
 
@@ -14,7 +13,7 @@ fn main(rt: HostRuntime) {
         return;
     }
     let mut sheet = io::large_buffer();
-    let Input::Read(n) = console::read(&rt, &mut sheet) else {
+    let Some(n) = console::read(&rt, &mut sheet) else {
         return;
     };
     let mut out = [0u8; MOST];

@@ -8,7 +8,7 @@ ghost use Rattle.sheet.specs.Passed.{ContractPassed};
 ghost use Rattle.lower_layout.specs.Laid.{Laid};
 ghost use Rattle.lower_name_table.specs.NameTable.{names_of, Span};
 
-use contract_lookup::symbols::last_function;
+use contract_lookup::by_place::last_function;
 use format::{ID, KIND, contract, kinds, program};
 use ir::{FunctionId, Name};
 use lower_layout::room;

@@ -8,7 +8,7 @@ ghost use Rattle.lower_names.specs.HeldNames.{held_name, held_as, held_of, held_
 ghost use Rattle.lower_names.specs.Answers.{lookup_of};
 
 use crate::{Entries, Lookup, MOST_HELD, Scopes, Top};
-use ir::{IrType, LocalId, Name, PER_NAME, type_code, type_of};
+use ir::{IrType, LocalId, Name, PER_NAME};
 
 // Where the parts of an entry start: the name, sixteen bits; the local, sixteen; the type's tag, three; the scope, thirteen; the type's
 // name, sixteen.
@@ -30,7 +30,7 @@ pub fn entry(scope: usize, name: Name, local: LocalId, ty: IrType) -> u64
     requires { scope < 8192 }
     ensures { held_of result ≡ held_name scope name.0 local.0 (as_type ty) }
 {
-    let code = type_code(ty);
+    let code = u32::from(ty) as usize;
     let tag = code % PER_NAME;
     let type_name = code / PER_NAME;
     name.0 as u64
@@ -45,7 +45,7 @@ fn lookup_of(e: u64) -> Lookup
     ensures { lookup_of result ≡ some ((held_of e).local, (held_of e).type) }
 {
     let local = LocalId((e / LOCAL % LOCALS) as u16);
-    let ty = type_of((e / TAG % TAGS) as u16, (e / TYPE_NAME) as u16);
+    let ty = IrType::from_parts((e / TAG % TAGS) as u16, (e / TYPE_NAME) as u16);
     Lookup::Local(local, ty)
 }
 

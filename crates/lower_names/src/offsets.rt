@@ -7,9 +7,7 @@ ghost use Rattle.sheet.specs.Passed.{ContractPassed};
 ghost use Rattle.lower_names.specs.Answers.{offset_of, field_offset};
 
 use crate::Offset;
-use contract_lookup::symbols::{field_position, last_named};
-use contract_lookup::{Found, Position};
-use format::kinds;
+use contract_lookup::by_place::{field_position, struct_named};
 use ir::{IrType, Name};
 use lower_state::LoweringError;
 
@@ -18,12 +16,12 @@ fn offset_in(s: &[u8], of: Name, field: Name) -> Offset
     requires { ContractPassed s.now }
     ensures { offset_of result ≡ field_offset (read_contract s.now) (defs.IrType.Struct of.0) field.0 }
 {
-    match last_named(s, kinds::STRUCT, of) {
-        Found::At(_, place) => match field_position(s, place, field) {
-            Position::At(i) => Offset::At(i * 8),
-            Position::Missing => Offset::Refused(LoweringError::NoSuchField(of, field)),
+    match struct_named(s, of) {
+        Some(found) => match field_position(found, field) {
+            Some(i) => Offset::At(i * 8),
+            None => Offset::Refused(LoweringError::NoSuchField(of, field)),
         },
-        Found::Missing => Offset::Refused(LoweringError::UnresolvedType(of)),
+        None => Offset::Refused(LoweringError::UnresolvedType(of)),
     }
 }
 

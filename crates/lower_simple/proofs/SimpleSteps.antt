@@ -16,7 +16,7 @@ use Rattle.definitions.proofs.Results.{told}
 use Rattle.sheet.specs.Passed.{record_kind}
 use Rattle.contract_nodes.specs.Ready.{Ready, ReadyAll, expr_at, exprs_from, stmt_at}
 use Rattle.sheet.specs.Passed.{ContractPassed}
-use Rattle.contract_nodes.proofs.Stmts.{let_at, constrain_at, assign_at, write_at, return_at, emit_at, expr_stmt_at}
+use Rattle.contract_nodes.proofs.StmtPlaces.{let_at, constrain_at, assign_at, write_at, return_at, emit_at, expr_stmt_at}
 use Rattle.lower_walk.specs.Log.{Log, log_instr}
 use Rattle.lower_walk.specs.Held.{Held, names}
 use Rattle.lower_walk.specs.Exprs.{walk_expr_value, walk_args}
@@ -31,13 +31,13 @@ use Rattle.lower_state.specs.State.{ctx_in, log_in, SameFrame, Sound}
 use Rattle.lower_state.specs.declared.FnCtx.{FnCtx}
 use Rattle.lower_state.specs.declared.LoweringError.{LoweringError}
 use Rattle.lower_state.specs.declared.LoweringError.TheVariants as code
-use Rattle.contract_lookup.specs.Answers.{slot_of, slot_named}
+use Rattle.ir.specs.Answers.{option_of}
+use Rattle.contract_lookup.specs.Answers.{slot_named}
 use Rattle.lower_names.specs.Answers.{lookup_of}
 use Rattle.lower_names.specs.HeldNames.{held_in}
 use Rattle.lower_names.specs.declared.Lookup.{Lookup}
 use Rattle.lower_names.specs.declared.Lookup.TheVariants as lookup
-use Rattle.contract_lookup.specs.declared.Slot.{Slot}
-use Rattle.contract_lookup.specs.declared.Slot.TheVariants as slot
+use Rattle.std.specs.Prelude as code_option
 use Rattle.lower_names.specs.declared.Top.{Top}
 use Rattle.lower_emit.specs.Emitted.{ids_of, Appends}
 use Rattle.lower_values.specs.Values.{lowered_in, valued_in, LoweredSame, ValuedSame}
@@ -194,15 +194,15 @@ module _ {a : Start} where
         assign_unheld k = done (assign_is b.0.0 i b.0.1.1) (refused _ (ap (λ o. ok_or_else o (lowering.LoweringError.UndefinedVariable n.0)) (told lookup_of k w)) ∙ handed _ (told (valued_in log₁) q h.0)) tt
 
   -- A SLOT FIRST, which there is or is not; the expression is refused or has a value
-  module _ {d : ℕ} {log₁ : List ℕ} {o : Slot} {n : Name} (b : Before 13 a d) (i : Named a n) (w : slot_of o ≡ slot_named (read_contract a.s) n.0) where
-    pub write_unheld : o ≡ slot.Undeclared → Done a log₁ a.tables (stepped.Refused (code.UndefinedVariable n))
-    write_unheld k = done (write_is b.0.0 i b.0.1.1) (slotted _ _ _ _ _ _ _ (told slot_of k w)) tt
+  module _ {d : ℕ} {log₁ : List ℕ} {o : code_option.Option ℕ} {n : Name} (b : Before 13 a d) (i : Named a n) (w : option_of (λ (i : ℕ). i) o ≡ slot_named (read_contract a.s) n.0) where
+    pub write_unheld : o ≡ code_option.None → Done a log₁ a.tables (stepped.Refused (code.UndefinedVariable n))
+    write_unheld k = done (write_is b.0.0 i b.0.1.1) (slotted _ _ _ _ _ _ _ (told (option_of (λ (i : ℕ). i)) k w)) tt
 
-    pub write_refused : {k : ℕ} {r : Valued} {e : LoweringError} → o ≡ slot.At k → Gives a (a.at + 8) log₁ r → r ≡ valued.Refused e → Done a log₁ a.tables (stepped.Refused e)
-    write_refused k h q = done (write_is b.0.0 i b.0.1.1) (refused _ (told (valued_in log₁) q h.0) ∙ slotted _ _ _ _ _ _ _ (told slot_of k w)) tt
+    pub write_refused : {k : ℕ} {r : Valued} {e : LoweringError} → o ≡ code_option.Some k → Gives a (a.at + 8) log₁ r → r ≡ valued.Refused e → Done a log₁ a.tables (stepped.Refused e)
+    write_refused k h q = done (write_is b.0.0 i b.0.1.1) (refused _ (told (valued_in log₁) q h.0) ∙ slotted _ _ _ _ _ _ _ (told (option_of (λ (i : ℕ). i)) k w)) tt
 
-    pub write_done : {k : ℕ} {r : Valued} {next e : FnCtx} {v : ValueId} {t : IrType} {log' : List ℕ} → o ≡ slot.At k → Gives a (a.at + 8) log₁ r → r ≡ valued.Value next v t → Appends (Instruction.StateWrite k v.0) log₁ next log' e → Done a log' a.tables (stepped.Next e)
-    write_done k h q p = logged (write_is b.0.0 i b.0.1.1) b.1.0 (p.same ∙ gave_same a.c h.1 q) p.is (handed _ (told (valued_in log₁) q h.0) ∙ slotted _ _ _ _ _ _ _ (told slot_of k w))
+    pub write_done : {k : ℕ} {r : Valued} {next e : FnCtx} {v : ValueId} {t : IrType} {log' : List ℕ} → o ≡ code_option.Some k → Gives a (a.at + 8) log₁ r → r ≡ valued.Value next v t → Appends (Instruction.StateWrite k v.0) log₁ next log' e → Done a log' a.tables (stepped.Next e)
+    write_done k h q p = logged (write_is b.0.0 i b.0.1.1) b.1.0 (p.same ∙ gave_same a.c h.1 q) p.is (handed _ (told (valued_in log₁) q h.0) ∙ slotted _ _ _ _ _ _ _ (told (option_of (λ (i : ℕ). i)) k w))
 
   -- NO EXPRESSION
   pub return_none_lem : {d size : ℕ} {log' tables' : List ℕ} {e : FnCtx} → Before 18 a d → size ≡ le 4 a.s a.at → a.at + size ≤ a.at + 6 → Changes (terminate (Terminator.Return none)) a.log a.tables a.c log' tables' e → Done a log' tables' (stepped.Next e)

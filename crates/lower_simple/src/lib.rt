@@ -9,7 +9,7 @@ ghost use Rattle.sheet.specs.Passed.{ContractPassed};
 ghost use Rattle.lower_state.specs.State.{Sound};
 ghost use Rattle.lower_flow.specs.Done.{StmtDone};
 
-use contract_lookup::{Slot, name_at};
+use contract_lookup::by_place::{name_at, storage_slot};
 use format::{HEAD, contract};
 use ir::ValueId;
 use lower_exprs::{copied, lower_expr, lower_expr_value};
@@ -118,19 +118,19 @@ pub fn lower_storage_write(
     ensures { (tables : List ℕ) → StmtDone s.now at entries.now top log.old tables ctx log.new tables result }
 {
     let name = name_at(s, at);
-    let found = contract_lookup::symbols::storage_slot(s, name);
+    let found = storage_slot(s, name);
     let value = at + contract::AFTER_NAME;
     let lowered = lower_expr_value(s, value, depth - 1, entries, top, ctx, log);
     match lowered {
         Valued::Value(next, v, _) => match found {
-            Slot::At(slot) => Stepped::Next(lower_emit::emit_state_write(log, next, slot, v)),
-            Slot::Undeclared => Stepped::Refused(LoweringError::UndefinedVariable(name)),
+            Some(slot) => Stepped::Next(lower_emit::emit_state_write(log, next, slot, v)),
+            None => Stepped::Refused(LoweringError::UndefinedVariable(name)),
         },
         Valued::Refused(e) => {
             let unnamed = LoweringError::UndefinedVariable(name);
             match found {
-                Slot::At(_) => Stepped::Refused(e),
-                Slot::Undeclared => Stepped::Refused(unnamed),
+                Some(_) => Stepped::Refused(e),
+                None => Stepped::Refused(unnamed),
             }
         }
     }

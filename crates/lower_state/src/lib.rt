@@ -7,6 +7,8 @@ ghost use Rattle.lower_state.specs.State.{new_ctx, with_counters};
 use format::MOST;
 use ir::{BlockId, FunctionId, Name};
 use lower_counters::{Counters, next_block};
+use std::error::Error;
+use std::fmt;
 
 // How many blocks and how many locals a function may have.
 pub const MOST_BLOCKS: u16 = 256;
@@ -32,7 +34,7 @@ pub const TABLES: usize = 768;
 pub const LOST: usize = MOST + 1;
 
 // The errors of lowering (`LoweringError`); the Rust's `UnsupportedNode` is told apart by its text.
-#[derive(Clone, Copy)]
+#[derive(Clone, Copy, Debug, PartialEq, Eq)]
 pub enum LoweringError {
     UnresolvedType(Name),
     UndefinedVariable(Name),
@@ -47,6 +49,39 @@ pub enum LoweringError {
     MerkleProof,
     TooManyBlocksOrLocals(FunctionId),
 }
+
+impl fmt::Display for LoweringError {
+    fn fmt<W: fmt::Write>(&self, f: &mut fmt::Formatter<W>) -> fmt::Result {
+        match self {
+            LoweringError::UnresolvedType(name) => write!(f, "unresolved type: name {}", name.0),
+            LoweringError::UndefinedVariable(name) => {
+                write!(f, "undefined variable: name {}", name.0)
+            }
+            LoweringError::UndefinedFunction(name) => {
+                write!(f, "undefined function: name {}", name.0)
+            }
+            LoweringError::FieldOfNonStruct => write!(f, "field access on non-struct type"),
+            LoweringError::NoSuchField(of, field) => {
+                write!(f, "struct {} has no field {}", of.0, field.0)
+            }
+            LoweringError::StructLiteral => write!(f, "struct literal is not supported"),
+            LoweringError::MappingRead => write!(f, "mapping read is not supported"),
+            LoweringError::MappingWrite => write!(f, "mapping write is not supported"),
+            LoweringError::VoidAsValue => write!(f, "void expression used as value"),
+            LoweringError::PoseidonArguments => write!(f, "poseidon takes exactly 2 arguments"),
+            LoweringError::MerkleProof => write!(f, "verify_merkle_proof is not supported"),
+            LoweringError::TooManyBlocksOrLocals(function) => {
+                write!(
+                    f,
+                    "function {} has more than 256 blocks or locals",
+                    function.0
+                )
+            }
+        }
+    }
+}
+
+impl Error for LoweringError {}
 
 // A function under way (`FnCtx`): the place behind the log's last record, which is `LOST` once a record did not fit; its id, the
 // next value, block and local, the current block, and whether that has its terminator. The widest field stands first, so that no gap is

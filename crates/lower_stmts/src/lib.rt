@@ -11,7 +11,7 @@ ghost use Rattle.lower_state.specs.State.{Sound};
 ghost use Rattle.contract_nodes.specs.Ready.{ReadyAll};
 ghost use Rattle.lower_flow.specs.Done.{StmtDone, StmtsDone};
 
-use contract_lookup::name_at;
+use contract_lookup::by_place::name_at;
 use format::{HEAD, KIND, contract, kinds};
 use ir::IrType;
 use lower_flow::terminate::next_arm;

@@ -12,7 +12,7 @@ ghost use Rattle.lower_values.specs.Calls.{resolve_user, resolve, first_argument
 ghost use Rattle.lower_values.specs.Values.{lowered_in, callee_of, LoweredSame};
 
 use crate::{Callee, Lowered, value_of};
-use contract_lookup::Signature;
+use contract_lookup::by_place::signature_named;
 use format::program;
 use ir::{FunctionId, IrType, Name, ValueId};
 use lower_state::{FnCtx, Log, LoweringError};
@@ -22,9 +22,9 @@ fn user_callee(s: &[u8], name: Name) -> Callee
     requires { ContractPassed s.now }
     ensures { callee_of result ≡ resolve_user (read_contract s.now) name.0 }
 {
-    match contract_lookup::symbols::signature(s, name) {
-        Signature::At(function, ty) => Callee::User(function, ty),
-        Signature::Undefined => Callee::Refused(LoweringError::UndefinedFunction(name)),
+    match signature_named(s, name) {
+        Some(called) => Callee::User(called.function, called.ret),
+        None => Callee::Refused(LoweringError::UndefinedFunction(name)),
     }
 }
 

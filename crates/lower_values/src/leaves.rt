@@ -12,7 +12,7 @@ ghost use Rattle.lower_state.specs.State.{log_in};
 ghost use Rattle.lower_values.specs.Values.{lowered_in, valued_in, field_on, binary_on, LoweredSame, AfterSame};
 
 use crate::{Lowered, Valued, value_of};
-use contract_lookup::Slot;
+use contract_lookup::by_place::storage_slot;
 use format::operators;
 use ir::{IrType, Name, ValueId};
 use lower_names::{Entries, Lookup, Offset, Top};
@@ -44,9 +44,9 @@ pub fn lower_storage_read(s: &[u8], name: Name, ctx: FnCtx, log: &mut Log) -> Lo
     ensures result_after { lowered_in log.new result ≡ walk_storage_read (read_contract s.now) name.0 (log_in log.old ctx) }
     ensures lowered_same { LoweredSame ctx result }
 {
-    match contract_lookup::symbols::storage_slot(s, name) {
-        Slot::At(slot) => value_of(lower_emit::emit_state_read(log, ctx, slot), IrType::U64),
-        Slot::Undeclared => Lowered::Refused(LoweringError::UndefinedVariable(name)),
+    match storage_slot(s, name) {
+        Some(slot) => value_of(lower_emit::emit_state_read(log, ctx, slot), IrType::U64),
+        None => Lowered::Refused(LoweringError::UndefinedVariable(name)),
     }
 }
 

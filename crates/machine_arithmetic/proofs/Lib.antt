@@ -1,1 +1,1 @@
-pub mod Products
+pub mod Operators

@@ -6,64 +6,64 @@ ghost use Rattle.definitions.specs.Ast.{BinOp};
 ghost use Rattle.definitions.specs.Bench.{wrap, binary_word};
 ghost use Rattle.definitions.specs.Bench as bench;
 ghost use Rattle.definitions.specs.ProgramSheet.{binary_of};
+ghost use Rattle.format.specs.Kinds.{instr_number};
 ghost use Rattle.machine_arithmetic.specs.Numbers.{word_or_stop};
 
-use format::kinds;
+use format::kinds::Instruction;
+use std::error::Error;
+use std::fmt;
 
-// What a binary instruction gives.
-#[derive(Clone, Copy)]
-pub enum Number {
-    Word(u64),
-    ZeroDivisor,
+// The divisor of a quotient is 0.
+#[derive(Clone, Copy, Debug, PartialEq, Eq)]
+pub struct ZeroDivisor;
+
+impl fmt::Display for ZeroDivisor {
+    fn fmt<W: fmt::Write>(&self, f: &mut fmt::Formatter<W>) -> fmt::Result {
+        write!(f, "the divisor is 0")
+    }
 }
 
-// A word is two halves of 32 bits; the upper one counts so many of the lower.
-const HALF: u64 = 4294967296;
+impl Error for ZeroDivisor {}
 
-// The product modulo 2^64, by halves: what the two upper ones give together is a multiple of 2^64.
+// The product modulo 2^64.
 fn wrapping_mul(a: u64, b: u64) -> u64
     ensures { result ≡ wrap (a * b) }
 {
-    let a_high = a / HALF;
-    let a_low = a % HALF;
-    let b_high = b / HALF;
-    let b_low = b % HALF;
-    let x = a_high * b_low;
-    let y = a_low * b_high;
-    let cross = (x % HALF + y % HALF) % HALF;
-    std::num::wrapping_add_u64(a_low * b_low, cross * HALF)
+    a.wrapping_mul(b)
 }
 
 // 1 or 0.
 fn flag(x: bool) -> u64
     ensures { result ≡ bench.flag x }
 {
-    if x { 1 } else { 0 }
+    u64::from(x)
 }
 
-fn quotient(a: u64, b: u64) -> Number
+#[tactic(auto, using(std::proofs::lemmas::Bool::Decides::nat_tests), unfolding(definitions::specs::Bench::binary_word))]
+fn quotient(a: u64, b: u64) -> Result<u64, ZeroDivisor>
     ensures { word_or_stop result ≡ binary_word BinOp.Div a b }
 {
     if b == 0 {
-        return Number::ZeroDivisor;
+        return Err(ZeroDivisor);
     }
-    Number::Word(a / b)
+    Ok(a / b)
 }
 
-// The binary instruction of a kind, ADD to GE, on two words.
-pub fn compute(kind: usize, a: u64, b: u64) -> Number
-    ensures { word_or_stop result ≡ binary_word (binary_of kind) a b }
+// The binary instruction of a kind, Add to Ge, on two words.
+#[tactic(auto, unfolding(definitions::specs::Bench::binary_word))]
+pub fn compute(kind: Instruction, a: u64, b: u64) -> Result<u64, ZeroDivisor>
+    ensures { word_or_stop result ≡ binary_word (binary_of (instr_number kind)) a b }
 {
     match kind {
-        kinds::ADD => Number::Word(std::num::wrapping_add_u64(a, b)),
-        kinds::SUB => Number::Word(std::num::wrapping_sub_u64(a, b)),
-        kinds::MUL => Number::Word(wrapping_mul(a, b)),
-        kinds::DIV => quotient(a, b),
-        kinds::IR_EQ => Number::Word(flag(a == b)),
-        kinds::IR_NE => Number::Word(flag(a != b)),
-        kinds::LT => Number::Word(flag(a < b)),
-        kinds::LE => Number::Word(flag(a <= b)),
-        kinds::GT => Number::Word(flag(b < a)),
-        _ => Number::Word(flag(b <= a)),
+        Instruction::Add => Ok(a.wrapping_add(b)),
+        Instruction::Sub => Ok(a.wrapping_sub(b)),
+        Instruction::Mul => Ok(wrapping_mul(a, b)),
+        Instruction::Div => quotient(a, b),
+        Instruction::Eq => Ok(flag(a == b)),
+        Instruction::Ne => Ok(flag(a != b)),
+        Instruction::Lt => Ok(flag(a < b)),
+        Instruction::Le => Ok(flag(a <= b)),
+        Instruction::Gt => Ok(flag(b < a)),
+        _ => Ok(flag(b <= a)),
     }
 }

@@ -5,8 +5,6 @@ use Rattle.std.proofs.Math.Option.{Option, none, some}
 use Rattle.std.proofs.lemmas.List.Edits.{sets}
 use Rattle.definitions.specs.Fields.{le, bytes}
 use Rattle.definitions.specs.Records.{pick}
-use Rattle.machine_memory.specs.declared.Word.{Word}
-use Rattle.machine_memory.specs.declared.Word.TheVariants.{Set, Unset}
 
 -- the bytes of a word, behind which the mark stands, and of a cell
 abbrev pub word_width : ℕ
@@ -14,10 +12,6 @@ word_width = 8
 
 abbrev pub cell_width : ℕ
 cell_width = word_width + 1
-
-abbrev pub word_of : Word → Option ℕ
-word_of (Set w) = some w
-word_of Unset = none
 
 -- what the cell at a place holds
 unfoldable pub cell : List ℕ → ℕ → Option ℕ

@@ -2,33 +2,29 @@
 #![tactic(auto)]
 
 ghost use Rattle.std.specs.Prelude.{◌≡◌, ◌+◌, ◌≤◌, length};
-ghost use Rattle.machine_memory.specs.Cells.{cell_width, word_of, cell, stored, emptied, cleared};
+ghost use Rattle.ir.specs.Answers.{option_of};
+ghost use Rattle.machine_memory.specs.Cells.{cell_width, cell, stored, emptied, cleared};
 
 // The bytes of a word, and of a cell.
 const WORD: usize = 8;
 
 pub const CELL: usize = WORD + 1;
 
-// What a cell holds.
-#[derive(Clone, Copy)]
-pub enum Word {
-    Set(u64),
-    Unset,
-}
-
-// The word of the cell at a place.
-pub fn get(memory: &[u8], at: usize) -> Word
+// The word of the cell at a place, if it is set.
+#[tactic(auto, unfolding(crate::specs::Cells::cell))]
+pub fn get(memory: &[u8], at: usize) -> Option<u64>
     requires { at + cell_width ≤ length memory.now }
-    ensures { word_of result ≡ cell memory.now at }
+    ensures { option_of (λ w. w) result ≡ cell memory.now at }
 {
     let mark = at + WORD;
     if memory[mark] == 0 {
-        return Word::Unset;
+        return None;
     }
-    Word::Set(reader::read(memory, at, WORD) as u64)
+    Some(reader::read(memory, at, WORD) as u64)
 }
 
 // The cell at a place takes a word.
+#[tactic(auto, unfolding(crate::specs::Cells::stored))]
 pub fn put(memory: &mut [u8], at: usize, word: u64)
     requires { at + cell_width ≤ length memory.old }
     ensures { memory.new ≡ stored memory.old at word }
@@ -39,6 +35,7 @@ pub fn put(memory: &mut [u8], at: usize, word: u64)
 }
 
 // The cell at a place becomes unset.
+#[tactic(auto, unfolding(crate::specs::Cells::emptied))]
 pub fn forget(memory: &mut [u8], at: usize)
     requires { at + cell_width ≤ length memory.old }
     ensures { memory.new ≡ emptied memory.old at }
@@ -52,6 +49,5 @@ pub fn clear(memory: &mut [u8], at: usize, n: usize)
     requires { at + n ≤ length memory.old }
     ensures { memory.new ≡ cleared memory.old at n }
 {
-    let end = at + n;
-    writer::clear(&mut memory[at..end], 0);
+    memory[at..at + n].fill(0);
 }

@@ -1,32 +1,48 @@
 -- What a step on what is lent promises, beyond crates/machine_state. Untrusted helpers of contracts: no public promise cites them.
 -- Assumes nothing: these are definitions.
-use Rattle.std.specs.Prelude.{ℕ, zero, suc, ◌+◌, ◌≡◌, List}
-use Rattle.std.proofs.Math.Option.{Option}
-use Rattle.definitions.specs.Result.{Result, ok, ◌>>=◌}
-use Rattle.definitions.specs.Fields.{le}
-use Rattle.definitions.specs.Records.{opt_from}
-use Rattle.definitions.specs.Bench.{Stop, Machine, Lent, give_result, take_outside}
-use Rattle.program_nodes.specs.Offsets.{fields_at}
-use Rattle.machine_state.specs.Running.{Running, Gone, instr_step}
-use Rattle.machine_state.specs.declared.UnderWay.{UnderWay}
-use Rattle.machine_state.specs.declared.Advance.{Advance}
-use Rattle.machine_outside.specs.declared.Context.{Context}
+use Rattle.std.specs.Prelude.{ℕ, ◌≡◌, List, [], ◌∷◌, drop, Option, None, Some, Result, Ok}
+use Rattle.std.proofs.Math.Option as maths
+use Rattle.definitions.specs.Result as defs
+use Rattle.definitions.specs.Result.{◌>>=◌}
+use Rattle.definitions.specs.Ir.{Instruction}
+use Rattle.definitions.specs.Bench.{Stop, Machine, Lent, give_result, take_outside, state_word, plain_words, step_instr}
+use Rattle.format.specs.declared.program.ContextKind.{ContextKind}
+use Rattle.format.specs.declared.program.ContextKind.TheVariants as kind
+use Rattle.ir.specs.Answers.{result_of}
+use Rattle.program_nodes.specs.declared.block.Records.{Records}
+use Rattle.machine_state.specs.Running.{Running, Gone, halt_of, at}
+use Rattle.machine_state.specs.declared.frame.Frame.{Frame}
+use Rattle.machine_state.specs.declared.halt.Halt.{Halt}
+use Rattle.machine_outside.specs.declared.lent.Outside.{Outside}
+use Rattle.machine_outside.specs.declared.lent.Context.{Context}
+
+-- OUTSIDE RESULTS that are left; the first of them is taken
+abbrev pub left : Outside → List ℕ
+left o = drop o.used o.words.now
+
+abbrev pub TakesWord : (old new : Outside) → Option ℕ → Type 0
+TakesWord old new None = left old ≡ []
+TakesWord old new (Some w) = left old ≡ w ∷ left new
 
 -- the next outside result, for a result id
-unfoldable pub taken_into : Option ℕ → Machine ℕ → Result (Stop ℕ) (Machine ℕ)
+unfoldable pub taken_into : maths.Option ℕ → Machine ℕ → defs.Result (Stop ℕ) (Machine ℕ)
 taken_into o m = do
   (n, m) ← take_outside m
-  ok (give_result o n m)
+  defs.ok (give_result o n m)
 
-pub record Takes (s before after outside : List ℕ) (t : UnderWay) (q : ℕ) (r : Advance) : Type 0 where
-  pub run : (frames state : List ℕ) (m : Machine ℕ) → Running s before frames state outside t m
-      → Gone s after frames state outside r (taken_into (opt_from (le 2 s (q + fields_at))) m)
+pub record Takes (t : Frame) (before after outside rest : List ℕ) (o : maths.Option ℕ) (r : Result (Unit {0}) Halt) : Type 0 where
+  pub run : (frames state : List ℕ) (block : Option Records) (depth : ℕ) (m : Machine ℕ) → Running before frames state outside (at t block depth) m
+      → Gone after frames state rest (at t block depth) r (taken_into o m)
 
--- the context words by their numbers, as the code has them
-abbrev pub context_of : ℕ → Context → ℕ
-context_of zero c = c.sender
-context_of (suc zero) c = c.nonce
-context_of (suc (suc k)) c = c.height
+-- STATE WORDS: the answer is the machine's
+pub record ReadsState (state : List ℕ) (slot : ℕ) (r : Result ℕ Halt) : Type 0 where
+  pub is : (m : Machine ℕ) → m.state ≡ state → result_of halt_of (λ w. w) r ≡ state_word m slot
+
+-- CONTEXT WORDS, as the code has them
+abbrev pub context_of : ContextKind → Context → ℕ
+context_of kind.MsgSender c = c.sender
+context_of kind.MsgNonce c = c.nonce
+context_of kind.BlockNumber c = c.height
 
 -- these are the context words that are lent
 pub record LendsContext (c : Context) (lent : Lent) : Type 0 where
@@ -34,7 +50,7 @@ pub record LendsContext (c : Context) (lent : Lent) : Type 0 where
   pub nonce_is : lent.nonce ≡ c.nonce
   pub height_is : lent.block_number ≡ c.height
 
--- the ContextRead at q
-pub record DoesContext (s before after : List ℕ) (c : Context) (t : UnderWay) (q : ℕ) (r : Advance) : Type 0 where
-  pub run : (lent : Lent) → LendsContext c lent → (frames state outside : List ℕ) (m : Machine ℕ) → Running s before frames state outside t m
-      → Gone s after frames state outside r (instr_step s q 81 lent m)
+-- the ContextRead of a kind
+pub record DoesContext (t : Frame) (before after : List ℕ) (c : Context) (o : maths.Option ℕ) (k : ℕ) : Type 0 where
+  pub run : (lent : Lent) → LendsContext c lent → (frames state outside : List ℕ) (block : Option Records) (depth : ℕ) (m : Machine ℕ) → Running before frames state outside (at t block depth) m
+      → Gone after frames state outside (at t block depth) (Ok tt) (step_instr plain_words lent m o (Instruction.ContextRead k))

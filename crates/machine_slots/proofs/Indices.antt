@@ -1,18 +1,17 @@
 -- Positions in a list of ids; two ids of it have two slots, each within the frame. Assumes nothing.
 use mathlib.Core.Path.{◌≡◌, refl, ap, sym, ◌∙◌}
-use mathlib.Core.Bool.{Bool, true, false}
 use mathlib.Core.List.{List, [], ◌∷◌, ◌++◌}
 use mathlib.Core.Option.{Option, none, some}
 use Prim.Native.Nat.{ℕ, suc, ◌+◌, ◌*◌, ◌≤◌, ◌<◌}
 use native.Mathlib.Omega.{arith}
-use borrow.Author.Tests.{eq-eqb, eqb-true, ltb-true, ltb-false}
-use lib.Dec.{eqb, ltb}
+use borrow.Author.Tests.{eq-eqb, eqb-true, ltb-true, ltb-false, leb-true}
+use lib.Dec.{eqb, ltb, leb}
 use lib.ListN.{length, get_or, length-append, length-map}
 use Rattle.definitions.specs.Ir.{InstrNode, BasicBlock, IrFunction}
 use Rattle.definitions.specs.Records.{pick}
 use Rattle.definitions.specs.Bench.{result_ids, result_ids_in, bytes_for}
 use Rattle.definitions.proofs.Results.{by_test}
-use Rattle.machine_slots.specs.Slots.{id_or_none, block_results, blocks_results, value_ids, index_of, Among, above, slot_for, Dense}
+use Rattle.machine_slots.specs.Slots.{id_or_none, block_results, blocks_results, value_ids, index_of, Among, above, slot_for}
 
 -- POSITIONS
 pub index_high : (v : ℕ) (ids : List ℕ) → index_of v ids ≤ length ids
@@ -68,15 +67,19 @@ below_above v (x ∷ xs) m h =
     (λ q. let k : suc (index_of v xs) < suc (length xs) = rw (q, index_of) at h in below_above v xs (pick (ltb x m) m (suc x)) (omega arith))
 
 -- SLOTS: within the frame, and two for two
-pub slot_low : (dense : Bool) (ids : List ℕ) (v : ℕ) → Dense dense ids → Among v ids → slot_for dense ids v < length ids
+pub slot_low : (ids : List ℕ) (v : ℕ) → Among v ids → slot_for ids v < length ids
 unfolding slot_for
-slot_low true ids v d h = omega (arith, below_above v ids 0 h, d refl)
-slot_low false ids v d h = h
+slot_low ids v h =
+    by_test (leb (above ids 0) (length ids))
+    (λ q. rw (q, slot_for) (omega (arith, below_above v ids 0 h, leb-true (above ids 0) (length ids) q)))
+    (λ q. rw (q, slot_for) h)
 
-pub slot_one : (dense : Bool) (ids : List ℕ) (v u : ℕ) → slot_for dense ids v < length ids → slot_for dense ids v ≡ slot_for dense ids u → v ≡ u
+pub slot_one : (ids : List ℕ) (v u : ℕ) → slot_for ids v < length ids → slot_for ids v ≡ slot_for ids u → v ≡ u
 unfolding slot_for
-slot_one true ids v u h e = e
-slot_one false ids v u h e = sym (index_at v ids h) ∙ (ap (λ (i : ℕ). get_or ids i 0) e ∙ index_at u ids (rw e at h))
+slot_one ids v u =
+    by_test (leb (above ids 0) (length ids))
+    (λ q. rw (q, slot_for) (λ h e. e))
+    (λ q. rw (q, slot_for) (λ h e. sym (index_at v ids h) ∙ (ap (λ (i : ℕ). get_or ids i 0) e ∙ index_at u ids (rw e at h))))
 
 -- THE FRAME has the bytes that the bench asks for
 results_in : (ns : List InstrNode) → length (block_results ns) ≡ result_ids ns

@@ -1,3 +1,4 @@
 pub mod Indices
-pub mod Seeking
-pub mod Places
+pub mod Searching
+pub mod Counting
+pub mod Walking

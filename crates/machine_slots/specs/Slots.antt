@@ -1,10 +1,13 @@
--- Where a function's values stand in its frame of working memory, and the search for one as the code does it. Untrusted helpers of contracts: no public
--- promise cites them. Assumes nothing: these are definitions.
-use Rattle.std.specs.Prelude.{ℕ, suc, ◌+◌, ◌≤◌, ◌<◌, ◌≡◌, Bool, true, false, List, [], ◌∷◌, ◌++◌, map, eqb, ltb, length}
+-- Where a function's values stand in its frame of working memory. Untrusted helpers of contracts: no public promise cites them.
+-- Assumes nothing: these are definitions.
+use Rattle.std.specs.Prelude as code
+use Rattle.std.specs.Prelude.{ℕ, suc, ◌<◌, Bool, false, List, [], ◌∷◌, ◌++◌, map, eqb, ltb, leb, length}
 use Rattle.std.proofs.Math.Option.{Option, none, some}
 use Rattle.definitions.specs.Ir.{IrType, InstrNode, BasicBlock, IrFunction}
 use Rattle.definitions.specs.Records.{pick}
-use Rattle.machine_slots.specs.declared.Seek.{Seek}
+use Rattle.ir.specs.Answers.{option_of}
+use Rattle.ir.specs.declared.ValueId.{ValueId}
+use Rattle.machine_slots.specs.declared.Ids.{Ids}
 
 -- THE IDS of a function in their order: its parameters', then its result ids
 abbrev pub id_or_none : Option ℕ → List ℕ
@@ -38,20 +41,35 @@ unfoldable pub above : List ℕ → ℕ → ℕ
 above [] m = m
 above (x ∷ xs) m = above xs (pick (ltb x m) m (suc x))
 
--- THE SLOT of a value: where the ids are dense, all below their count, it is the id itself
-unfoldable pub slot_for : Bool → List ℕ → ℕ → ℕ
-slot_for true ids v = v
-slot_for false ids v = index_of v ids
+-- how many they are, and a number above all of them
+abbrev pub counted : List ℕ → Ids
+counted ids = record { count = length ids; above = above ids 0 }
 
-abbrev pub Dense : Bool → List ℕ → Type 0
-Dense dense ids = dense ≡ true → above ids 0 ≤ length ids
+-- A SEARCH for v passes one id after another, and stops at v with its position
+abbrev pub id_of : code.Option ValueId → Option ℕ
+id_of = option_of (λ v. v.0)
 
--- A SEARCH for v went over these ids. Nothing is found of 65,535, which stands for no id: then all of them are counted.
-pub record Sought (v : ℕ) (before : Seek) (ids : List ℕ) (after : Seek) : Type 0 where
-  pub count_is : after.count ≡ before.count + index_of v ids
-  pub above_is : after.found ≡ false → after.above ≡ above ids before.above
-  pub found_is : after.found ≡ ltb (index_of v ids) (length ids)
-  pub absent : v ≡ 65535 → after.found ≡ false
+abbrev pub none_yet : Ids
+none_yet = record { count = 0; above = 0 }
 
-abbrev pub none_yet : Seek
-none_yet = record { count = 0; above = 0; found = false }
+abbrev pub with_one : Ids → ℕ → Ids
+with_one i x = record { count = suc i.count; above = pick (ltb x i.above) i.above (suc x) }
+
+abbrev pub is_it : ℕ → Option ℕ → Bool
+is_it x none = false
+is_it x (some v) = eqb x v
+
+abbrev pub passed : Ids → ℕ → Option ℕ → code.Result Ids ℕ
+passed i x v = pick (is_it x v) (code.Err i.count) (code.Ok (with_one i x))
+
+unfoldable pub searched : Ids → List ℕ → Option ℕ → code.Result Ids ℕ
+searched i [] v = code.Ok i
+searched i (x ∷ xs) v = pick (is_it x v) (code.Err i.count) (searched (with_one i x) xs v)
+
+-- THE SLOT of a value: where the ids are dense, all below their count, it is the id itself, and else its position
+unfoldable pub slot_for : List ℕ → ℕ → ℕ
+slot_for ids v = pick (leb (above ids 0) (length ids)) v (index_of v ids)
+
+-- i of n, if there are so many
+abbrev pub one_of : (n i : ℕ) → Option ℕ
+one_of n i = pick (ltb i n) (some i) none

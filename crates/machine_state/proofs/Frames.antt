@@ -1,6 +1,5 @@
 -- What a store changes of what a frame's cells hold. Assumes nothing.
 use mathlib.Core.Path.{◌≡◌, ap, sym, ◌∙◌}
-use mathlib.Core.Bool.{Bool}
 use mathlib.Core.List.{List, [], ◌∷◌}
 use mathlib.Core.Logic.{◌⊎◌, inl, inr}
 use mathlib.Core.Option.{Option, none, some}
@@ -9,14 +8,14 @@ use native.Mathlib.Omega.{arith}
 use borrow.Author.Tests.{eqb-true, eqb-false, lt-ltb, le-ltb, ltb-true, ltb-false}
 use lib.Dec.{eqb, ltb}
 use lib.ListN.{length}
-use Rattle.definitions.specs.Ir.{IrFunction}
 use Rattle.definitions.specs.Bench.{Notes, word_at, bytes_for}
 use Rattle.definitions.proofs.Results.{by_test}
 use Rattle.machine_memory.specs.Cells.{cell_width, cell, stored, emptied, cleared}
 use Rattle.machine_memory.proofs.Cells.{stored_same, stored_apart, emptied_same, emptied_apart, cleared_within, length_stored, length_emptied}
-use Rattle.machine_slots.specs.Slots.{value_ids, Among, slot_for, Dense}
+use Rattle.machine_slots.specs.Slots.{Among, slot_for}
 use Rattle.machine_slots.proofs.Indices.{slot_low, slot_one, frame_bytes}
-use Rattle.machine_state.specs.Frames.{slot_word, InCells}
+use Rattle.machine_state.specs.Frames.{function_in, ids_in, value_cell, locals_base, local_cell, slot_word, InCells}
+use Rattle.machine_state.specs.declared.frame.Frame.{Frame}
 
 -- SLOT WORDS
 pub within : (m : List ℕ) (base n i : ℕ) → i < n → slot_word m base n i ≡ cell m (base + cell_width * i)
@@ -60,65 +59,61 @@ other_slot {m} {after} base n i j c h =
     (λ q. let k : n ≤ j = ltb-false j n q in beyond after base n j k ∙ sym (beyond m base n j k))
 
 -- A FRAME after one of its values, or locals, took a word or became unset
-module _ {m after : List ℕ} {base : ℕ} {dense : Bool} {f : IrFunction} {values locals : Notes ℕ} {w : Option ℕ} (H : InCells m base dense f values locals) where
-  pub value_changed : (v : ℕ) → Dense dense (value_ids f) → Among v (value_ids f) → Changed m after (base + cell_width * slot_for dense (value_ids f) v) w
-      → InCells after base dense f ((v, w) ∷ values) locals
-  value_changed v d h c =
-      let n : ℕ = length (value_ids f) in
-      let lo : slot_for dense (value_ids f) v < n = slot_low dense (value_ids f) v d h in
+module _ {m after : List ℕ} {t : Frame} {values locals : Notes ℕ} {w : Option ℕ} (H : InCells m t values locals) where
+  pub value_changed : (v : ℕ) → Among v (ids_in t) → Changed m after (value_cell t v) w → InCells after t ((v, w) ∷ values) locals
+  value_changed v h c =
+      let n : ℕ = length (ids_in t) in
+      let lo : slot_for (ids_in t) v < n = slot_low (ids_in t) v h in
       record {
         value = λ u.
             by_test (eqb v u)
             (λ q.
             rw (q, word_at) (sym
-            (ap (λ (x : ℕ). slot_word after base n (slot_for dense (value_ids f) x)) (sym (eqb-true v u q)) ∙ (within after base n (slot_for dense (value_ids f) v) lo ∙ c.same))))
+            (ap (λ (x : ℕ). slot_word after t.base n (slot_for (ids_in t) x)) (sym (eqb-true v u q)) ∙ (within after t.base n (slot_for (ids_in t) v) lo ∙ c.same))))
             (λ q.
             rw (q, word_at) (H.value u ∙ sym
-            (other_slot base n (slot_for dense (value_ids f) v) (slot_for dense (value_ids f) u) c (λ e. eqb-false v u q (slot_one dense (value_ids f) v u lo e)))));
+            (other_slot t.base n (slot_for (ids_in t) v) (slot_for (ids_in t) u) c (λ e. eqb-false v u q (slot_one (ids_in t) v u lo e)))));
         local = λ l.
-            H.local l ∙ sym (same_word after m (base + cell_width * n) (length f.locals) l (λ i k. c.apart (base + cell_width * n + cell_width * i) (inr (omega arith))));
+            H.local l ∙ sym (same_word after m (locals_base t) (length (function_in t).locals) l (λ i k. c.apart (locals_base t + cell_width * i) (inr (omega arith))));
       }
 
-  pub local_changed : (l : ℕ) → l < length f.locals → Changed m after (base + cell_width * length (value_ids f) + cell_width * l) w
-      → InCells after base dense f values ((l, w) ∷ locals)
+  pub local_changed : (l : ℕ) → l < length (function_in t).locals → Changed m after (local_cell t l) w → InCells after t values ((l, w) ∷ locals)
   local_changed l h c =
-      let n : ℕ = length (value_ids f) in
-      let k : ℕ = length f.locals in
+      let k : ℕ = length (function_in t).locals in
       record {
-        value = λ v. H.value v ∙ sym (same_word after m base n (slot_for dense (value_ids f) v) (λ i z. c.apart (base + cell_width * i) (inl (omega arith))));
+        value = λ v. H.value v ∙ sym (same_word after m t.base (length (ids_in t)) (slot_for (ids_in t) v) (λ i z. c.apart (t.base + cell_width * i) (inl (omega arith))));
         local = λ j.
             by_test (eqb l j)
             (λ q.
             rw (q, word_at) (sym
-            (ap (slot_word after (base + cell_width * n) k) (sym (eqb-true l j q)) ∙ (within after (base + cell_width * n) k l h ∙ c.same))))
-            (λ q. rw (q, word_at) (H.local j ∙ sym (other_slot (base + cell_width * n) k l j c (eqb-false l j q))));
+            (ap (slot_word after (locals_base t) k) (sym (eqb-true l j q)) ∙ (within after (locals_base t) k l h ∙ c.same))))
+            (λ q. rw (q, word_at) (H.local j ∙ sym (other_slot (locals_base t) k l j c (eqb-false l j q))));
       }
 
 -- A FRAME that a store does not touch
-pub not_touched : {m after : List ℕ} {base : ℕ} {dense : Bool} {f : IrFunction} {values locals : Notes ℕ} → InCells m base dense f values locals
-    → ((r : ℕ) → base ≤ r → r + cell_width ≤ base + bytes_for f → cell after r ≡ cell m r) → InCells after base dense f values locals
-not_touched {m} {after} {base} {dense} {f} H h =
-    let n : ℕ = length (value_ids f) in
-    let e : bytes_for f ≡ 9 * (n + length f.locals) = frame_bytes f in
+pub not_touched : {m after : List ℕ} {t : Frame} {values locals : Notes ℕ} → InCells m t values locals
+    → ((r : ℕ) → t.base ≤ r → r + cell_width ≤ t.base + bytes_for (function_in t) → cell after r ≡ cell m r) → InCells after t values locals
+not_touched {m} {after} {t} H h =
+    let n : ℕ = length (ids_in t) in
+    let e : bytes_for (function_in t) ≡ 9 * (n + length (function_in t).locals) = frame_bytes (function_in t) in
     record {
-      value = λ v. H.value v ∙ sym (same_word after m base n (slot_for dense (value_ids f) v) (λ i k. h (base + cell_width * i) (omega arith) (omega arith)));
+      value = λ v. H.value v ∙ sym (same_word after m t.base n (slot_for (ids_in t) v) (λ i k. h (t.base + cell_width * i) (omega arith) (omega arith)));
       local = λ l.
-          H.local l ∙ sym (same_word after m (base + cell_width * n) (length f.locals) l (λ i k. h (base + cell_width * n + cell_width * i) (omega arith) (omega arith)));
+          H.local l ∙ sym (same_word after m (locals_base t) (length (function_in t).locals) l (λ i k. h (locals_base t + cell_width * i) (omega arith) (omega arith)));
     }
 
 -- A FRAME that was cleared holds nothing
-pub nothing_held : (m : List ℕ) (base : ℕ) (dense : Bool) (f : IrFunction) → base + bytes_for f ≤ length m → InCells (cleared m base (bytes_for f)) base dense f [] []
-nothing_held m base dense f h =
-    let n : ℕ = length (value_ids f) in
-    let b : ℕ = bytes_for f in
-    let e : bytes_for f ≡ 9 * (n + length f.locals) = frame_bytes f in
-    let none-at : (p k i : ℕ) → base ≤ p → p + cell_width * k ≤ base + bytes_for f → none ≡ slot_word (cleared m base (bytes_for f)) p k i = (λ p k i x y.
+pub nothing_held : (m : List ℕ) (t : Frame) → t.base + bytes_for (function_in t) ≤ length m → InCells (cleared m t.base (bytes_for (function_in t))) t [] []
+nothing_held m t h =
+    let n : ℕ = length (ids_in t) in
+    let e : bytes_for (function_in t) ≡ 9 * (n + length (function_in t).locals) = frame_bytes (function_in t) in
+    let none-at : (p k i : ℕ) → t.base ≤ p → p + cell_width * k ≤ t.base + bytes_for (function_in t) → none ≡ slot_word (cleared m t.base (bytes_for (function_in t))) p k i = (λ p k i x y.
     by_test (ltb i k)
     (λ q.
     let z : i < k = ltb-true i k q in
-    sym (within (cleared m base (bytes_for f)) p k i z ∙ cleared_within m base (bytes_for f) (p + cell_width * i) h (omega arith) (omega arith)))
-    (λ q. sym (beyond (cleared m base (bytes_for f)) p k i (ltb-false i k q)))) in
+    sym (within (cleared m t.base (bytes_for (function_in t))) p k i z ∙ cleared_within m t.base (bytes_for (function_in t)) (p + cell_width * i) h (omega arith) (omega arith)))
+    (λ q. sym (beyond (cleared m t.base (bytes_for (function_in t))) p k i (ltb-false i k q)))) in
     record {
-      value = λ v. none-at base n (slot_for dense (value_ids f) v) (omega arith) (omega arith);
-      local = λ l. none-at (base + cell_width * n) (length f.locals) l (omega arith) (omega arith);
+      value = λ v. none-at t.base n (slot_for (ids_in t) v) (omega arith) (omega arith);
+      local = λ l. none-at (locals_base t) (length (function_in t).locals) l (omega arith) (omega arith);
     }

@@ -1,5 +1,5 @@
 pub mod Frames
 pub mod Placing
 pub mod Running
-pub mod Blocks
 pub mod Asking
+pub mod Blocks

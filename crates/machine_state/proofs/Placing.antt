@@ -1,62 +1,104 @@
--- A frame that is placed, for the functions that read and write its words. Assumes nothing.
-use mathlib.Core.Path.{◌≡◌, ap, sym, ◌∙◌}
+-- The cells of a frame, for the functions that read and write its words. Assumes nothing.
+use mathlib.Core.Path.{◌≡◌, refl, ap, sym, ◌∙◌}
 use mathlib.Core.List.{List}
-use mathlib.Core.Option.{Option, none}
+use mathlib.Core.Option.{Option, none, some}
 use Prim.Native.Nat.{ℕ, ◌+◌, ◌*◌, ◌≤◌, ◌<◌}
 use native.Mathlib.Omega.{arith}
-use borrow.Author.Tests.{eq-eqb, ne_eqb}
+use borrow.Author.Tests.{lt-ltb, le-ltb, ltb-true, ltb-false}
+use lib.Dec.{ltb}
 use lib.ListN.{length}
-use Rattle.definitions.specs.Records.{opt_from}
+use Rattle.std.specs.Prelude as code
+use Rattle.std.specs.Prelude.{None, Some, IsSome}
 use Rattle.definitions.specs.Bench.{bytes_for}
+use Rattle.definitions.proofs.Results.{by_test}
 use Rattle.machine_memory.specs.Cells.{cell_width, cell, stored, emptied}
-use Rattle.machine_slots.specs.Slots.{slot_for}
+use Rattle.machine_slots.specs.Slots.{slot_for, one_of}
 use Rattle.machine_slots.proofs.Indices.{slot_low, frame_bytes}
-use Rattle.machine_state.specs.Frames.{function_in, ids_in, FramePlaced, Given, local_cell, slot_word, ValueIs, LocalIs, given, forgotten}
-use Rattle.machine_state.specs.declared.UnderWay.{UnderWay}
+use Rattle.machine_state.specs.Frames.{function_in, ids_in, word_of, Fits, Given, value_cell, slot_place, slot_word, given, forgotten}
+use Rattle.machine_state.specs.declared.frame.Frame.{Frame}
 use Rattle.machine_state.proofs.Frames.{within, beyond}
 
-module _ {s : List ℕ} {room : ℕ} {t : UnderWay} (P : FramePlaced s room t) where
-  pub room_is : t.base + cell_width * t.count + cell_width * t.locals ≤ room
-  room_is =
-      let e : bytes_for (function_in s t) ≡ 9 * (length (ids_in s t) + length (function_in s t).locals) = frame_bytes (function_in s t) in
-      omega (arith, P.fits, P.count_is, P.locals_is)
+abbrev has_one : Option ℕ → ℕ
+has_one none = 0
+has_one (some p) = 1
 
--- the slot of a value that is one of the ids
-pub slot_fits : {s : List ℕ} {room slot v : ℕ} {t : UnderWay} → Given s room t v → (v ≡ 65535 → ⊥) → slot ≡ slot_for t.dense (ids_in s t) v → slot < t.count
-slot_fits {s} {v = v} {t = t} G n e = omega (arith, slot_low t.dense (ids_in s t) v G.placed.dense_is (G.among n), G.placed.count_is)
+abbrev number_in : Option ℕ → ℕ
+number_in none = 0
+number_in (some p) = p
 
-module _ (s memory : List ℕ) (t : UnderWay) {room : ℕ} (P : FramePlaced s room t) where
-  pub value_in : (v : ℕ) {slot : ℕ} {w : Option ℕ} → slot ≡ slot_for t.dense (ids_in s t) v → slot < t.count → w ≡ cell memory (t.base + cell_width * slot) → ValueIs s memory t v w
-  value_in v {slot} {w} e l h =
-      h ∙ (sym (within memory t.base (length (ids_in s t)) slot (omega (arith, P.count_is))) ∙ ap (slot_word memory t.base (length (ids_in s t))) e)
+-- ONE OF n: what is there, and what is not
+pub is_there : {n i j : ℕ} → some j ≡ one_of n i → (i < n) × (j ≡ i)
+is_there {n} {i} {j} h =
+    by_test (ltb i n)
+    (λ q. (ltb-true i n q, ap number_in (rw (q, one_of) at h)))
+    (λ q. let k : ◌≡◌ {A = ℕ} 1 0 = ap has_one (rw (q, one_of) at h) in absurd (omega arith))
 
-  pub value_out : (v : ℕ) {slot : ℕ} → slot ≡ slot_for t.dense (ids_in s t) v → t.count ≤ slot → ValueIs s memory t v none
-  value_out v e l = sym (beyond memory t.base (length (ids_in s t)) (slot_for t.dense (ids_in s t) v) (omega (arith, P.count_is, e)))
+pub is_past : {n i : ℕ} → none ≡ one_of n i → n ≤ i
+is_past {n} {i} h =
+    by_test (ltb i n)
+    (λ q. let k : ◌≡◌ {A = ℕ} 0 1 = ap has_one (rw (q, one_of) at h) in absurd (omega arith))
+    (λ q. ltb-false i n q)
 
-  pub local_in_lem : {l : ℕ} {w : Option ℕ} → l < t.locals → w ≡ cell memory (t.base + cell_width * t.count + cell_width * l) → LocalIs s memory t l w
-  local_in_lem {l} h e =
-      e ∙ (ap (λ (x : ℕ). cell memory (t.base + cell_width * x + cell_width * l)) P.count_is
-      ∙ sym (within memory (t.base + cell_width * length (ids_in s t)) (length (function_in s t).locals) l (omega (arith, P.locals_is))))
+-- PLACES: what the code found, and the word there
+module _ (base n i : ℕ) where
+  pub place_in : {p : ℕ} → i < n → p ≡ base + cell_width * i → some p ≡ slot_place base n i
+  unfolding slot_place
+  place_in h e = rw (lt-ltb i n h) (ap some e)
 
-  pub local_out : {l : ℕ} → t.locals ≤ l → LocalIs s memory t l none
-  local_out {l} h = sym (beyond memory (t.base + cell_width * length (ids_in s t)) (length (function_in s t).locals) l (omega (arith, P.locals_is)))
+  pub place_out : n ≤ i → none ≡ slot_place base n i
+  unfolding slot_place
+  place_out h = rw (le-ltb i n h)
 
-  pub local_stored : (l w : ℕ) → stored memory (t.base + cell_width * t.count + cell_width * l) w ≡ stored memory (local_cell s t l) w
-  local_stored l w = ap (λ (x : ℕ). stored memory (t.base + cell_width * x + cell_width * l) w) P.count_is
+  placed : {p : ℕ} → some p ≡ slot_place base n i → (i < n) × (p ≡ base + cell_width * i)
+  unfolding slot_place
+  placed h =
+      by_test (ltb i n)
+      (λ q. (ltb-true i n q, ap number_in (rw (q, slot_place) at h)))
+      (λ q. let k : ◌≡◌ {A = ℕ} 1 0 = ap has_one (rw (q, slot_place) at h) in absurd (omega arith))
 
-module _ (s memory : List ℕ) (t : UnderWay) {v : ℕ} where
-  pub given_none : (w : ℕ) → v ≡ 65535 → memory ≡ given s memory t (opt_from v) w
-  unfolding given opt_from
-  given_none w e = rw (eq-eqb v 65535 e)
+  not_placed : none ≡ slot_place base n i → n ≤ i
+  unfolding slot_place
+  not_placed h =
+      by_test (ltb i n)
+      (λ q. let k : ◌≡◌ {A = ℕ} 0 1 = ap has_one (rw (q, slot_place) at h) in absurd (omega arith))
+      (λ q. ltb-false i n q)
 
-  pub given_some : {slot : ℕ} (w : ℕ) → (v ≡ 65535 → ⊥) → slot ≡ slot_for t.dense (ids_in s t) v → stored memory (t.base + cell_width * slot) w ≡ given s memory t (opt_from v) w
-  unfolding given opt_from
-  given_some w n e = rw (ne_eqb v 65535 n) (ap (λ (x : ℕ). stored memory (t.base + cell_width * x) w) e)
+  pub found : {o : code.Option ℕ} {p : ℕ} → word_of o ≡ slot_place base n i → o ≡ Some p → (i < n) × (p ≡ base + cell_width * i)
+  found h e = placed (ap word_of (sym e) ∙ h)
 
-  pub forgotten_none : v ≡ 65535 → memory ≡ forgotten s memory t (opt_from v)
-  unfolding forgotten opt_from
-  forgotten_none e = rw (eq-eqb v 65535 e)
+  pub is_some : (o : code.Option ℕ) → word_of o ≡ slot_place base n i → i < n → IsSome o
+  is_some None h l = absurd (omega (arith, not_placed h))
+  is_some (Some p) h l = refl
 
-  pub forgotten_some : {slot : ℕ} → (v ≡ 65535 → ⊥) → slot ≡ slot_for t.dense (ids_in s t) v → emptied memory (t.base + cell_width * slot) ≡ forgotten s memory t (opt_from v)
-  unfolding forgotten opt_from
-  forgotten_some n e = rw (ne_eqb v 65535 n) (ap (λ (x : ℕ). emptied memory (t.base + cell_width * x)) e)
+  module _ (m : List ℕ) where
+    pub word_in : {p : code.Option ℕ} {a : ℕ} (o : code.Option ℕ) → word_of p ≡ slot_place base n i → p ≡ Some a → word_of o ≡ cell m a → word_of o ≡ slot_word m base n i
+    word_in o h p e = let f = found h p in e ∙ (ap (cell m) f.1 ∙ sym (within m base n i f.0))
+
+    pub word_out : {p : code.Option ℕ} (o : code.Option ℕ) → word_of p ≡ slot_place base n i → p ≡ None → o ≡ None → word_of o ≡ slot_word m base n i
+    word_out o h p e = ap word_of e ∙ sym (beyond m base n i (not_placed (ap word_of (sym p) ∙ h)))
+
+-- WITHIN THE FRAME
+module _ (room : ℕ) (t : Frame) (f : Fits room t) where
+  pub value_fits : {i p : ℕ} → (i < length (ids_in t)) × (p ≡ t.base + cell_width * i) → p + cell_width ≤ room
+  value_fits h =
+      let e : bytes_for (function_in t) ≡ 9 * (length (ids_in t) + length (function_in t).locals) = frame_bytes (function_in t) in
+      let a = h.0 in let b = h.1 in
+      omega (arith, f)
+
+  pub local_fits : {i p : ℕ} → (i < length (function_in t).locals) × (p ≡ t.base + cell_width * length (ids_in t) + cell_width * i) → p + cell_width ≤ room
+  local_fits h =
+      let e : bytes_for (function_in t) ≡ 9 * (length (ids_in t) + length (function_in t).locals) = frame_bytes (function_in t) in
+      let a = h.0 in let b = h.1 in
+      omega (arith, f)
+
+pub given_low : {room v : ℕ} {o : Option ℕ} (t : Frame) → Given room t o → o ≡ some v → slot_for (ids_in t) v < length (ids_in t)
+given_low {v = v} t G e = slot_low (ids_in t) v (G.among v e)
+
+-- WHAT IS GIVEN, by the place that the code found
+pub given_at : (m : List ℕ) (t : Frame) (v : ℕ) {p : ℕ} (w : ℕ) → p ≡ value_cell t v → stored m p w ≡ given m t (some v) w
+unfolding given
+given_at m t v w e = ap (λ (x : ℕ). stored m x w) e
+
+pub forgotten_at : (m : List ℕ) (t : Frame) (v : ℕ) {p : ℕ} → p ≡ value_cell t v → emptied m p ≡ forgotten m t (some v)
+unfolding forgotten
+forgotten_at m t v e = ap (emptied m) e

@@ -1,105 +1,87 @@
 -- A list of operands, asked for one by one. Assumes nothing.
 use mathlib.Core.Path.{◌≡◌, refl, sym, subst}
-use mathlib.Core.Bool.{Bool, true, false}
 use mathlib.Core.List.{List, [], ◌∷◌}
-use mathlib.Core.Option.{none, some}
-use Prim.Native.Nat.{ℕ, zero, suc, ◌+◌, ◌-◌, ◌*◌, ◌/◌, ◌≤◌, ◌<◌}
-use native.Mathlib.Numerals.{sub-one}
-use native.Mathlib.Omega.{arith}
-use lib.ListN.{length}
-use Rattle.definitions.specs.Result.{Result, err, ok, ◌>>=◌, ◌>>◌}
-use Rattle.definitions.specs.Fields.{le}
-use Rattle.definitions.specs.Records.{read_item, read_items, size_of}
-use Rattle.definitions.specs.Bench.{Stop, Machine, word_at, value_words, step_instr}
-use Rattle.program_nodes.specs.Offsets.{event_args_at}
-use Rattle.program_nodes.specs.Positions.{stop_here, ids_here, instr_here}
-use Rattle.machine_state.specs.Frames.{ValueIs}
-use Rattle.machine_state.specs.Running.{Running, Gone, Does}
-use Rattle.machine_state.specs.declared.UnderWay.{UnderWay}
-use Rattle.machine_state.specs.declared.Halt.TheVariants as halts
-use Rattle.machine_state.specs.declared.Advance.TheVariants.{Going, Stopped}
+use mathlib.Core.Option as maths
+use Prim.Native.Nat.{ℕ}
+use Rattle.std.specs.Prelude.{Option, None, Some, Result, Ok, Err}
+use Rattle.definitions.specs.Result as defs
+use Rattle.definitions.specs.Result.{◌>>=◌, ◌>>◌, ok_or_else}
+use Rattle.definitions.specs.Ir.{Instruction}
+use Rattle.definitions.specs.Bench.{Stop, Machine, value_words, step_instr}
+use Rattle.ir.specs.declared.ValueId.{ValueId}
+use Rattle.program_nodes.specs.Nodes.{ids_in, TakesId, FirstId}
+use Rattle.program_nodes.specs.declared.instr.Ids.{Ids}
+use Rattle.machine_state.specs.Frames.{word_of, value_word}
+use Rattle.machine_state.specs.Running.{Running, Gone, Does, at}
+use Rattle.machine_state.specs.declared.frame.Frame.{Frame}
+use Rattle.machine_state.specs.declared.under_way.UnderWay.{UnderWay}
+use Rattle.machine_state.specs.declared.halt.Halt.{Halt}
+use Rattle.machine_state.specs.declared.halt.Halt.TheVariants as halts
+use Rattle.machine_state.proofs.Running.{value_some, value_none}
+use Rattle.machine_state.proofs.Asking.{found, lacking}
 use Rattle.machine_steps.specs.Steps.{AreThere, AllAsked}
-use Rattle.machine_state.proofs.Asking.{found, lacking, value}
 
-ids_front : (n : ℕ) (s : List ℕ) (p : ℕ) → 0 < n → ids_here n s p ≡ le 2 s p ∷ ids_here (n - 1) s (p + 2)
-unfolding ids_here read_items read_item size_of
-ids_front zero s p h = absurd (omega arith)
-ids_front (suc n) s p h = rw sub-one refl
+abbrev Answer : Type 0
+Answer = Result (Unit {0}) Halt
 
-no_ids : {n : ℕ} (s : List ℕ) (p : ℕ) → n ≡ 0 → ids_here n s p ≡ []
-unfolding ids_here read_items
-no_ids s p e = rw e refl
-
-one_more : (b : Bool) (w : ℕ) (x : Result (Stop ℕ) (List ℕ)) → AreThere b x → AreThere b (x >>= λ (ws : List ℕ). ok (w ∷ ws))
-one_more true w (ok ws) h = tt
-one_more true w (err x) h = h
-one_more false w (ok ws) h = h
-one_more false w (err x) h = h
+one_more : (b : Answer) (w : ℕ) (x : defs.Result (Stop ℕ) (List ℕ)) → AreThere b x → AreThere b (x >>= λ (ws : List ℕ). defs.ok (w ∷ ws))
+one_more (Ok u) w (defs.ok ws) h = tt
+one_more (Ok u) w (defs.err x) h = h
+one_more (Err e) w (defs.ok ws) h = h
+one_more (Err e) w (defs.err x) h = h
 
 -- what is left of them says what the whole says
-pub record AskLeft (s memory : List ℕ) (t : UnderWay) (from n p left : ℕ) : Type 0 where
-  pub room : p + 2 * left ≤ length s
-  pub rest : (frames state outside : List ℕ) (m : Machine ℕ) → Running s memory frames state outside t m → (b : Bool) → AreThere b (value_words m (ids_here left s p))
-      → AreThere b (value_words m (ids_here n s from))
+pub record AskLeft (t : Frame) (memory whole rest : List ℕ) : Type 0 where
+  pub goes : (b : Answer) → AllAsked t memory rest b → AllAsked t memory whole b
 
-pub all_to_ask : {s memory : List ℕ} {t : UnderWay} {from n : ℕ} → from + 2 * n ≤ length s → AskLeft s memory t from n from n
-all_to_ask h = record { room = h; rest = λ frames state outside m R b x. x }
+pub all_to_ask : {t : Frame} {memory whole : List ℕ} → AskLeft t memory whole whole
+all_to_ask = record { goes = λ b x. x }
 
-module _ {s memory : List ℕ} {t : UnderWay} {from n p left v : ℕ} (A : AskLeft s memory t from n p left) (h : 0 < left) (e : v ≡ le 2 s p) where
-  pub asked_on : {w : ℕ} → ValueIs s memory t v (some w) → AskLeft s memory t from n (p + 2) (left - 1)
+module _ {t : Frame} {memory whole : List ℕ} (old new : Ids) (x : Option ℕ) {r : Option ValueId} {v : ValueId} (A : AskLeft t memory whole (ids_in old)) (T : TakesId old new r) (s : r ≡ Some v) (e : word_of x ≡ value_word memory t v.0) where
+  front : ids_in old ≡ v.0 ∷ ids_in new
+  front = let F : FirstId old new v = subst (TakesId old new) s T in F.is
+
+  pub asked_on : {w : ℕ} → x ≡ Some w → AskLeft t memory whole (ids_in new)
   unfolding value_words
-  asked_on {w} i = record {
-    room = omega (arith, A.room);
-    rest = λ frames state outside m R b x.
-        A.rest frames state outside m R b
-        (subst (λ (l : List ℕ). AreThere b (value_words m l)) (sym (ids_front left s p h))
-        (found (AreThere b) (word_at (le 2 s p) m.top.values) (λ (a : ℕ). value_words m (ids_here (left - 1) s (p + 2)) >>= λ (ws : List ℕ). ok (a ∷ ws)) w (value R (some w) p e i)
-        (one_more b w (value_words m (ids_here (left - 1) s (p + 2))) x)));
+  asked_on {w} z = record {
+    goes = λ b N.
+        A.goes b (record {
+          run = λ frames state outside block depth m R.
+              subst (λ (l : List ℕ). AreThere b (value_words m l)) (sym front)
+              (found (AreThere b) (λ (a : ℕ). value_words m (ids_in new) >>= λ (ws : List ℕ). defs.ok (a ∷ ws)) (value_some R v.0 e z)
+              (one_more b w (value_words m (ids_in new)) (N.run frames state outside block depth m R)));
+        });
   }
 
-  pub asked_lacks : ValueIs s memory t v none → AllAsked s memory t from n false
+  pub asked_lacks : {b : Answer} → x ≡ None → b ≡ Err halts.Unset → AllAsked t memory whole b
   unfolding value_words
-  asked_lacks i = record {
-    run = λ frames state outside m R.
-        A.rest frames state outside m R false
-        (subst (λ (l : List ℕ). AreThere false (value_words m l)) (sym (ids_front left s p h))
-        (lacking (AreThere false) (word_at (le 2 s p) m.top.values) (λ (a : ℕ). value_words m (ids_here (left - 1) s (p + 2)) >>= λ (ws : List ℕ). ok (a ∷ ws)) (value R none p e i) refl));
-  }
+  asked_lacks {b} z h =
+      A.goes b (record {
+        run = λ frames state outside block depth m R.
+            subst (λ (y : Answer). AreThere y (value_words m (ids_in old))) (sym h)
+            (subst (λ (l : List ℕ). AreThere (Err halts.Unset) (value_words m l)) (sym front)
+            (lacking (AreThere (Err halts.Unset)) (λ (a : ℕ). value_words m (ids_in new) >>= λ (ws : List ℕ). defs.ok (a ∷ ws)) (value_none R v.0 e z) refl));
+      })
 
-pub asked_all : {s memory : List ℕ} {t : UnderWay} {from n p left : ℕ} → AskLeft s memory t from n p left → left ≡ 0 → AllAsked s memory t from n true
+pub asked_all : {t : Frame} {memory whole : List ℕ} (old new : Ids) {r : Option ValueId} → AskLeft t memory whole (ids_in old) → TakesId old new r → r ≡ None → AllAsked t memory whole (Ok tt)
 unfolding value_words
-asked_all {s} {memory} {t} {from} {n} {p} {left} A z = record {
-  run = λ frames state outside m R.
-      A.rest frames state outside m R true (subst (λ (l : List ℕ). AreThere true (value_words m l)) (sym (no_ids s p z)) tt);
-}
+asked_all old new A T s =
+    A.goes (Ok tt) (record {
+      run = λ frames state outside block depth m R.
+          let z : ids_in old ≡ [] = subst (TakesId old new) s T in
+          subst (λ (l : List ℕ). AreThere (Ok tt) (value_words m l)) (sym z) tt;
+    })
 
 -- EMIT
-passes : (s memory frames state outside : List ℕ) (t : UnderWay) (m : Machine ℕ) (x : Result (Stop ℕ) (List ℕ)) → Running s memory frames state outside t m → AreThere true x
-    → Gone s memory frames state outside (Going t) (x >> ok m)
-passes s memory frames state outside t m (ok ws) R h = R
-passes s memory frames state outside t m (err x) R h = absurd h
+passes : (memory frames state outside : List ℕ) (t : UnderWay) (m : Machine ℕ) (r : Answer) (x : defs.Result (Stop ℕ) (List ℕ)) → Running memory frames state outside t m → AreThere r x
+    → Gone memory frames state outside t r (x >> defs.ok m)
+passes memory frames state outside t m (Ok u) (defs.ok ws) R h = R
+passes memory frames state outside t m (Ok u) (defs.err x) R h = absurd h
+passes memory frames state outside t m (Err e) (defs.ok ws) R h = absurd h
+passes memory frames state outside t m (Err e) (defs.err x) R h = h
 
-stops : (s memory frames state outside : List ℕ) (m : Machine ℕ) (x : Result (Stop ℕ) (List ℕ)) → AreThere false x → Gone s memory frames state outside (Stopped halts.Unset) (x >> ok m)
-stops s memory frames state outside m (ok ws) h = absurd h
-stops s memory frames state outside m (err x) h = h
-
-module _ {s memory : List ℕ} {t : UnderWay} {stop : ℕ} {b : Bool} (q : ℕ) (e : stop ≡ stop_here s q) (A : AllAsked s memory t (q + event_args_at) ((stop - (q + event_args_at)) / 2) b) where
-  asked : {frames state outside : List ℕ} (m : Machine ℕ) → Running s memory frames state outside t m → (d : Bool) → b ≡ d
-      → AreThere d (value_words m (ids_here ((stop_here s q - (q + event_args_at)) / 2) s (q + event_args_at)))
-  asked {frames} {state} {outside} m R d z =
-      subst (λ (x : Bool). AreThere x (value_words m (ids_here ((stop_here s q - (q + event_args_at)) / 2) s (q + event_args_at)))) z
-      (subst (λ (x : ℕ). AreThere b (value_words m (ids_here ((x - (q + event_args_at)) / 2) s (q + event_args_at)))) e (A.run frames state outside m R))
-
-  pub emit_passes : b ≡ true → Does s memory memory t q 80 (Going t)
-  unfolding step_instr instr_here
-  emit_passes z = record {
-    run = λ lent frames state outside m R.
-        passes s memory frames state outside t m (value_words m (ids_here ((stop_here s q - (q + event_args_at)) / 2) s (q + event_args_at))) R (asked m R true z);
-  }
-
-  pub emit_lacks : b ≡ false → Does s memory memory t q 80 (Stopped halts.Unset)
-  unfolding step_instr instr_here
-  emit_lacks z = record {
-    run = λ lent frames state outside m R.
-        stops s memory frames state outside m (value_words m (ids_here ((stop_here s q - (q + event_args_at)) / 2) s (q + event_args_at))) (asked m R false z);
-  }
+pub emits : {t : Frame} {memory vs : List ℕ} {r : Answer} → AllAsked t memory vs r → (o : maths.Option ℕ) (event : ℕ) → Does t memory memory o (Instruction.Emit event vs) r
+unfolding step_instr
+emits {t} {memory} {vs} {r} A o event = record {
+  run = λ lent frames state outside block depth m R. passes memory frames state outside (at t block depth) m r (value_words m vs) R (A.run frames state outside block depth m R);
+}

@@ -8,6 +8,20 @@ ghost use Rattle.definitions.specs.Answers.{check_contract, lowered_numbers, low
 ghost use Rattle.definitions.specs.ContractSheet.{refusal3};
 ghost use Rattle.definitions.specs.Demand3.{Demand3Of};
 
+use lower_numbers::{check_numbers, lower_numbers};
+use numbers::Numbers;
+use sheet::Malformed;
+use verify_numbers::verify_numbers;
+
+// Writes the numbers, with zeros behind them, and gives the first.
+fn hand_out(numbers: Numbers, out: &mut [usize; 6]) -> usize
+    ensures out_after { out.new ≡ padded 6 numbers }
+    ensures number { result ≡ get_or out.new 0 0 }
+{
+    *out = numbers.padded();
+    out[0]
+}
+
 // Lowers the bytes of a contract sheet. The output gets the program sheet and then zeros, or zeros; the numbers are 0 and the sheet's
 // length, or the refusal's. Where the first number is 0, demand 3 holds of as many bytes of the output as the second says.
 #[unsafe(no_mangle)]
@@ -18,10 +32,7 @@ pub extern "C" fn malovuneth_lower(sheet: &[u8], out: &mut [u8], numbers: &mut [
     ensures number { result ≡ get_or numbers.new 0 0 }
 {
     let answer = lower::lower(sheet, out);
-    let n = lower_numbers::lower_numbers(answer);
-    let list = n.list;
-    *numbers = list;
-    numbers[0]
+    hand_out(lower_numbers(answer), numbers)
 }
 
 // The version that was linked: major * 10,000 + minor * 100 + patch.
@@ -38,10 +49,7 @@ pub extern "C" fn malovuneth_verify(sheet: &[u8], out: &mut [usize; 6]) -> usize
     ensures out_after { out.new ≡ padded 6 (numbers_of (verify_sheet sheet.now)) }
     ensures number { result ≡ get_or out.new 0 0 }
 {
-    let n = verify_numbers::verify_numbers(verify::verify(sheet));
-    let list = n.list;
-    *out = list;
-    out[0]
+    hand_out(verify_numbers(verify::verify(sheet)), out)
 }
 
 // What lowering asks of a contract sheet before the walk: accepted, or refusal 1, 3 or 4.
@@ -50,10 +58,7 @@ pub extern "C" fn malovuneth_contract_check(sheet: &[u8], out: &mut [usize; 6]) 
     ensures out_after { out.new ≡ padded 6 (numbers_of (check_contract sheet.now)) }
     ensures number { result ≡ get_or out.new 0 0 }
 {
-    let n = lower_numbers::check_numbers(sheet::check_contract(sheet));
-    let list = n.list;
-    *out = list;
-    out[0]
+    hand_out(check_numbers(sheet::check_contract(sheet)), out)
 }
 
 // The form of a contract sheet alone, of any length: accepted, or refusal 3.
@@ -63,13 +68,7 @@ pub extern "C" fn malovuneth_contract_form(sheet: &[u8], out: &mut [usize; 6]) -
     ensures number { result ≡ get_or out.new 0 0 }
 {
     match sheet::contract_form(sheet) {
-        sheet::Form::Good => {
-            *out = [0; 6];
-            0
-        }
-        sheet::Form::Bad(p) => {
-            *out = [3, p, 0, 0, 0, 0];
-            3
-        }
+        Ok(()) => hand_out(Numbers::new([]), out),
+        Err(Malformed(place)) => hand_out(Numbers::new([3, place]), out),
     }
 }

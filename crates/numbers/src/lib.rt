@@ -1,98 +1,82 @@
-// What an answer says, as numbers: for C and Rust to read, and for the line that is printed. Here ids, places and types become numbers; each operation has
-// the numbers of its own cases.
+// What an answer says, as numbers: for C and Rust to read, and for the line that is printed. Each operation has the numbers of its own cases.
 #![tactic(auto)]
 
-ghost use Rattle.std.specs.Prelude.{[], ◌∷◌, ◌/◌, ◌%◌};
-ghost use Rattle.numbers.specs.Tells.{Tells};
+ghost use Rattle.std.specs.Prelude.{◌≡◌, ◌≤◌, length};
+ghost use Rattle.definitions.specs.Answers.{numbers_of, padded};
+ghost use Rattle.definitions.specs.Result.{err, Done};
+ghost use Rattle.sheet.specs.Forms.{refusal_of};
 
-use ir::PER_NAME;
+use sheet::ContractError;
+use std::marker::Model;
 
-// The first `count` of the list are the answer's numbers, a refusal's own and its details; zeros stand behind them. Acceptance has none.
-#[derive(Clone, Copy)]
+// The most numbers that an answer has: a refusal's own, and five details.
+pub const MOST: usize = 6;
+
+// An answer's numbers: a refusal's own and its details, in order. Acceptance has none, or 0 and a length.
+#[derive(Clone, Copy, Debug, PartialEq, Eq)]
 pub struct Numbers {
-    pub count: usize,
-    pub list: [usize; 6],
+    count: usize,
+    list: [usize; MOST],
 }
 
-// Acceptance.
-pub fn none() -> Numbers
-    ensures { Tells result [] }
-{
-    Numbers {
-        count: 0,
-        list: [0, 0, 0, 0, 0, 0],
+// A clause sees the numbers themselves. Zeros stand behind them in the array.
+impl Model for Numbers {
+    ghost use Rattle.std.specs.Prelude.{List, ℕ, ◌≡◌, ◌≤◌, length, take};
+    ghost use Rattle.definitions.specs.Answers.{padded};
+
+    ghost Value = { List ℕ };
+
+    ghost view = { λ n. take n.count n.list };
+
+    ghost invariant = { λ n. (n.count ≤ 6) × (n.list ≡ padded 6 (take n.count n.list)) };
+
+    ghost inverse = { λ l. record { count = length l; list = padded 6 l } };
+
+    ghost use Rattle.std.proofs.Common.{sym};
+    ghost use Rattle.numbers.specs.Restored.{length_of};
+
+    ghost inverse_ok = { λ a h i. record { count = length_of a.count a.list h i; list = sym h.1 i } };
+}
+
+impl Numbers {
+    // The numbers of a list.
+    pub fn new<const N: usize>(list: [usize; N]) -> Numbers
+        requires { N ≤ 6 }
+        ensures { result ≡ list.entry }
+    {
+        let mut all = [0; MOST];
+        all[..N].copy_from_slice(&list);
+        Numbers {
+            count: N,
+            list: all,
+        }
+    }
+
+    // The numbers, six at most.
+    pub fn as_slice(&self) -> &[usize]
+        ensures is { result.now ≡ self.now }
+        ensures most { length result.now ≤ 6 }
+    {
+        &self.list[..self.count]
+    }
+
+    // The numbers with zeros behind them, as C reads them.
+    pub fn padded(&self) -> [usize; MOST]
+        ensures { result ≡ padded 6 self.now }
+    {
+        self.list
     }
 }
 
-// A refusal without details.
-pub fn alone(number: usize) -> Numbers
-    ensures { Tells result (number ∷ []) }
-{
-    Numbers {
-        count: 1,
-        list: [number, 0, 0, 0, 0, 0],
-    }
-}
+// The numbers of a contract sheet that is refused before the walk.
+impl From<ContractError> for Numbers {
+    ghost from_gives = { λ e n. n ≡ numbers_of {A = Done} (err (refusal_of e)) };
 
-// A refusal with a place, or with a length.
-pub fn placed(number: usize, place: usize) -> Numbers
-    ensures { Tells result (number ∷ place ∷ []) }
-{
-    Numbers {
-        count: 2,
-        list: [number, place, 0, 0, 0, 0],
-    }
-}
-
-// A refusal with a place and what was found there.
-pub fn found(number: usize, place: usize, what: usize) -> Numbers
-    ensures { Tells result (number ∷ place ∷ what ∷ []) }
-{
-    Numbers {
-        count: 3,
-        list: [number, place, what, 0, 0, 0],
-    }
-}
-
-// A refusal of a name, or of a function.
-pub fn named(number: usize, name: u16) -> Numbers
-    ensures { Tells result (number ∷ name ∷ []) }
-{
-    placed(number, name as usize)
-}
-
-// A refusal of the function of a name, with what it is about; or of the struct of a name, with its field.
-pub fn about(number: usize, name: u16, what: u16) -> Numbers
-    ensures { Tells result (number ∷ name ∷ what ∷ []) }
-{
-    Numbers {
-        count: 3,
-        list: [number, name as usize, what as usize, 0, 0, 0],
-    }
-}
-
-// The same, with the code of that value's type.
-pub fn typed(number: usize, name: u16, what: u16, code: usize) -> Numbers
-    ensures { Tells result (number ∷ name ∷ what ∷ code % 65536 ∷ code / 65536 ∷ []) }
-{
-    let tag = code % PER_NAME;
-    let of = code / PER_NAME;
-    Numbers {
-        count: 5,
-        list: [number, name as usize, what as usize, tag, of, 0],
-    }
-}
-
-// A refusal of the function of a name for two types, by their codes.
-pub fn types(number: usize, name: u16, code: usize, other: usize) -> Numbers
-    ensures { Tells result (number ∷ name ∷ code % 65536 ∷ code / 65536 ∷ other % 65536 ∷ other / 65536 ∷ []) }
-{
-    let tag = code % PER_NAME;
-    let of = code / PER_NAME;
-    let other_tag = other % PER_NAME;
-    let other_of = other / PER_NAME;
-    Numbers {
-        count: 6,
-        list: [number, name as usize, tag, of, other_tag, other_of],
+    fn from(e: ContractError) -> Numbers {
+        match e {
+            ContractError::TooLong => Numbers::new([1]),
+            ContractError::Malformed(place) => Numbers::new([3, place]),
+            ContractError::OverLimit(place) => Numbers::new([4, place]),
+        }
     }
 }

@@ -1,21 +1,25 @@
 -- The places of a function's definitions ascend, so a value is new exactly if the search gives its own place. Assumes nothing.
-use mathlib.Core.Path.{◌≡◌, refl, ap, ◌∙◌}
+use mathlib.Core.Path.{◌≡◌, refl, ap, sym, ◌∙◌}
+use mathlib.Core.Bool.{true}
 use mathlib.Core.List.{List, [], ◌∷◌, ◌++◌, append_assoc}
 use mathlib.Core.Option.{Option, none, some}
 use Prim.Native.Nat.{ℕ, zero, suc, ◌+◌, ◌-◌, ◌*◌, ◌≤◌, ◌<◌}
 use native.Mathlib.Nat.{not-suc-le-zero}
 use native.Mathlib.Omega.{arith}
-use borrow.Author.Tests.{eq-eqb}
+use lib.Dec.{eqb}
+use borrow.Author.Tests.{eq-eqb, eqb-true}
 use Rattle.definitions.specs.All.{All, anil, acons}
 use Rattle.definitions.specs.Fields.{le}
 use Rattle.definitions.specs.Ir.{Instruction}
 use Rattle.definitions.specs.Records.{opt_from, read_records, read_items, read_item, size_of}
 use Rattle.definitions.proofs.Sheets.Steps.{low}
 use Rattle.program_nodes.specs.Offsets.{param_count_at, first_param_at, records_at, fields_at}
-use Rattle.program_nodes.specs.Positions.{kind_here, stop_here, instr_here, params_here, BlockFrom, BlocksFrom, FunctionHere}
-use Rattle.program_nodes.specs.Definitions.{Definition, param_definitions, result_definition, block_definitions, blocks_definitions, definitions_of, first_definition, place_of, first_place}
-use Rattle.program_nodes.specs.declared.Function.{Function}
+use Rattle.program_nodes.specs.Positions.{kind_here, stop_here, instr_here, params_here, BlockFrom, BlocksFrom}
+use Rattle.program_nodes.specs.Definitions.{Definition, param_definitions, result_definition, block_definitions, blocks_definitions, first_definition, is_at}
+use Rattle.program_nodes.specs.Nodes.{definitions_of}
+use Rattle.program_nodes.specs.declared.program.Function.{Function}
 use Rattle.program_nodes.proofs.Walk.{AtRecord, at_end, at_instr, at_term, at_record, AtBlock, no_block_lem, at_block, at_blocks}
+use Rattle.program_nodes.proofs.Facts.{function_is}
 use Rattle.program_nodes.proofs.Definitions.{first_append, first_has, params_from, instr_definitions, term_definitions, end_definitions, blocks_definitions_lem, no_blocks}
 
 abbrev pub Ascends : ℕ → List Definition → Type 0
@@ -63,19 +67,22 @@ blocks_ascend (suc n) {s} {b} {end} lo h l f = go (at_blocks f) (λ g. blocks_as
     go (at_block B) below =
         rw (blocks_definitions_lem B) (block_ascends (suc (stop_here s b - (b + records_at))) lo (blocks_definitions (read_records s (stop_here s b) end)) (omega arith) (omega arith) B.records (below (omega (arith, B.low, B.high)) B.next))
 
-pub ascends : {s : List ℕ} {f : Function} → FunctionHere s f → Ascends f.at (definitions_of s f)
+pub ascends : (f : Function) → Ascends f.at (definitions_of f)
 unfolding definitions_of params_here
-ascends {s} {f} F =
+ascends f =
+    let s = f.program.sheet.now in
+    let F = function_is f in
     params_ascend (le 2 s (f.at + param_count_at)) s (f.at + first_param_at) f.at f.first (blocks_definitions (read_records s f.first f.stop)) (omega arith) (omega (arith, F.first_is))
     (blocks_ascend (suc (f.stop - f.first)) f.first (omega arith) (omega arith) F.blocks)
 
--- A VALUE IS NEW exactly if its first place is its own
-pub new_place : (pre : List Definition) (e : Definition) (post : List Definition) → first_definition e.value pre ≡ none → first_place e.value (pre ++ (e ∷ post)) ≡ e.place
+-- A VALUE IS NEW exactly if its first definition stands at its own place
+pub new_place : (pre : List Definition) (e : Definition) (post : List Definition) → first_definition e.value pre ≡ none → is_at (first_definition e.value (pre ++ (e ∷ post))) e.place ≡ true
 unfolding first_definition
-new_place pre e post z = ap place_of (first_append e.value pre (e ∷ post)) ∙ rw (z, eq-eqb e.value e.value refl)
+new_place pre e post z = ap (λ (o : Option Definition). is_at o e.place) (first_append e.value pre (e ∷ post)) ∙ rw (z, eq-eqb e.value e.value refl) (eq-eqb e.place e.place refl)
 
-pub old_place : (lo : ℕ) (pre : List Definition) (e : Definition) (post : List Definition) (x : Definition) → Ascends lo (pre ++ (e ∷ post)) → first_definition e.value pre ≡ some x → first_place e.value (pre ++ (e ∷ post)) ≡ e.place → ⊥
+pub old_place : (lo : ℕ) (pre : List Definition) (e : Definition) (post : List Definition) (x : Definition) → Ascends lo (pre ++ (e ∷ post)) → first_definition e.value pre ≡ some x → is_at (first_definition e.value (pre ++ (e ∷ post))) e.place ≡ true → ⊥
 old_place lo pre e post x a z h =
     let k : x.place < e.place = (first_has e.value (before_low lo pre e post a).1 x z).0 in
-    let g : first_place e.value (pre ++ (e ∷ post)) ≡ x.place = ap place_of (first_append e.value pre (e ∷ post)) ∙ rw z refl in
+    let g : is_at (first_definition e.value (pre ++ (e ∷ post))) e.place ≡ eqb x.place e.place = ap (λ (o : Option Definition). is_at o e.place) (first_append e.value pre (e ∷ post)) ∙ rw z refl in
+    let w : x.place ≡ e.place = eqb-true _ _ (sym g ∙ h) in
     omega arith

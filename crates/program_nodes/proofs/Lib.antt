@@ -1,7 +1,9 @@
-pub mod Records
-pub mod Types
-pub mod ResultType
+pub mod Stand
+pub mod InstrRows
 pub mod Walk
-pub mod Functions
+pub mod FunctionSteps
 pub mod Definitions
 pub mod Ascending
+pub mod KindNumbers
+pub mod Facts
+pub mod Takes

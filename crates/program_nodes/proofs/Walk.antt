@@ -1,5 +1,5 @@
 -- The walk over the records of a program sheet that passed: those of a block, and blocks. Assumes nothing.
-use mathlib.Core.Path.{◌≡◌, refl, ap, ap₂, ◌∙◌, subst}
+use mathlib.Core.Path.{◌≡◌, refl, ap, ap₂, sym, ◌∙◌, subst}
 use mathlib.Core.List.{List, [], ◌∷◌, ◌++◌, map}
 use mathlib.Core.Option.{Option, none, some}
 use Prim.Native.Nat.{ℕ, ◌+◌, ◌≤◌, ◌<◌}
@@ -9,17 +9,24 @@ use lib.ListN.{length}
 use borrow.Author.Tests.{le-leb, lt-leb}
 use Rattle.definitions.specs.Fields.{le}
 use Rattle.definitions.specs.Ir.{Instruction}
-use Rattle.definitions.specs.Grammar.{Class, Entry, up_to, optional, Field, single, Pattern, done, perhaps, many, origin, rows}
-use Rattle.definitions.specs.Records.{FieldValue, opt_from, read_item, size_of, fields_end, read_values, node, Trees, tnil, tcons, read_records, gather}
+use Rattle.definitions.specs.Grammar.{Class, Entry, up_to, optional, Field, single, Pattern, done, one, perhaps, many, origin, rows}
+use Rattle.definitions.specs.Records.{FieldValue, opt_from, may_end, read_item, size_of, fields_end, read_values, node, Trees, tnil, tcons, read_records, gather}
 use Rattle.definitions.specs.ProgramSheet.{own_of, terminator_of, instr_node_of, term_of, first_of, block_of}
-use Rattle.definitions.specs.Fine.{Head, Fine}
+use Rattle.format.specs.Kinds.{instr_number, term_number, in_block_number}
+use Rattle.format.specs.declared.kinds.InBlock.{InBlock}
+use Rattle.format.specs.declared.kinds.InBlock.TheVariants as in_block
+use Rattle.format.specs.declared.kinds.Instruction.{Instruction as InstrKind}
+use Rattle.format.specs.declared.kinds.Terminator.{Terminator as TermKind}
+use Rattle.format.specs.declared.kinds.Terminator.TheVariants as term
+use Rattle.definitions.specs.Fine.{Head, Fine, ends}
 use Rattle.definitions.proofs.Sheets.Passed.{read_end, read_step}
 use Rattle.definitions.proofs.Sheets.Lines.{OfRows, Given, by_lines}
 use Rattle.definitions.proofs.Sheets.Singles.{items_from, after as afterAll, Starts, starts, Own, own}
-use Rattle.definitions.proofs.Sheets.Steps.{Step, here, past, many_step, perhaps_step, done_ends, low}
+use Rattle.definitions.proofs.Sheets.Steps.{Step, here, past, One, this, many_step, perhaps_step, one_step, done_ends, low}
 use Rattle.program_nodes.specs.Offsets.{head_width, block_id_at, records_at, fields_at, own_at}
-use Rattle.program_nodes.specs.Positions.{kind_here, stop_here, instr_here, size_here, term_here, term_size, instrs_here, terminator_here, block_here, blocks_here, BlockFrom, BlocksFrom, BlockEnds, InstrPlace, InstrTo, TermPlace}
-use Rattle.program_nodes.proofs.Records.{InstrAt, instr_at, placed}
+use Rattle.program_nodes.specs.Positions.{kind_here, stop_here, instr_here, size_here, term_here, term_size, instrs_here, terminator_here, block_here, blocks_here, BlockFrom, BlocksFrom, InstrPlace, InstrTo, TermPlace}
+use Rattle.program_nodes.proofs.Stand.{alone, instr_after, term_after}
+use Rattle.program_nodes.proofs.InstrRows.{InstrAt, instr_at, instr_kind, placed}
 
 -- TERMINATORS, by their own values
 pub record TermAt (s : List ℕ) (q stop k : ℕ) (vs : List FieldValue) : Type 0 where
@@ -49,8 +56,18 @@ module _ (s : List ℕ) (q end b stop : ℕ) where
       (λ hd. (refl, term_line 92 (optional ∷ []) (lit≤ tt) (lit≤ tt) refl refl hd))
       (λ hd. (refl, term_line 93 [] (lit≤ tt) (lit≤ tt) refl refl hd))
 
+-- each has a kind of the code
+abbrev K : Class → ℕ → List Field → Pattern → Type 0
+K c k fs p = (kind : TermKind) × (term_number kind ≡ k)
+
+term_kind : OfRows K Class.terminator rows
+unfolding Given rows
+term_kind = by_lines K Class.terminator rows (term.Jump, refl) (term.Branch, refl) (term.Return, refl) (term.Unreachable, refl)
+
 -- A BLOCK'S RECORDS: what stands at q
 pub record InstrStep (s : List ℕ) (q end stop : ℕ) : Type 0 where
+  pub alone : Fine s q stop (one Class.instruction done)
+  pub kind : (k : InstrKind) × (instr_number k ≡ kind_here s q)
   pub vs : List FieldValue
   pub at : InstrAt s q stop (kind_here s q) (own_of vs)
   pub high : stop ≤ end
@@ -60,6 +77,9 @@ pub record InstrStep (s : List ℕ) (q end stop : ℕ) : Type 0 where
   pub read : read_records s q end ≡ tcons (node q (kind_here s q) vs ks) (read_records s stop end)
 
 pub record TermStep (s : List ℕ) (q end : ℕ) : Type 0 where
+  pub alone : Fine s q end (one Class.terminator done)
+  pub stop_is : end ≡ stop_here s q
+  pub kind : (k : TermKind) × (term_number k ≡ kind_here s q)
   pub vs : List FieldValue
   pub at : TermAt s q end (kind_here s q) (own_of vs)
   pub low : q + head_width ≤ end
@@ -72,7 +92,6 @@ pub data AtRecord (s : List ℕ) (q end : ℕ) : Type 0 where
   at_term : TermStep s q end → AtRecord s q end
 
 size_big : (k : ℕ) → own_at ≤ size_here k
-unfolding size_here
 size_big k = omega arith
 
 pub head_fits : {s : List ℕ} {q k : ℕ} → InstrPlace s q k → q + own_at ≤ length s
@@ -84,6 +103,9 @@ at_terminator {s} {q} {end} (here {fs = fs} {b = b} {stop = stop} hd kids more) 
     let t = term_at s q end b stop (kind_here s q) _ _ hd.is hd in
     let e : stop ≡ end = done_ends more in
     at_term (record {
+      alone = subst (λ (x : ℕ). Fine s q x (one Class.terminator done)) e (alone Class.terminator term_after hd kids);
+      stop_is = sym e ∙ hd.stop_is;
+      kind = term_kind (kind_here s q) _ _ hd.is;
       vs = read_values fs s stop (q + head_width);
       at = subst (λ (x : ℕ). TermAt s q x (kind_here s q) (own_of (read_values fs s stop (q + head_width)))) e t.1;
       low = omega (arith, hd.low, hd.mid);
@@ -96,6 +118,8 @@ at_instruction (past f) = at_terminator (perhaps_step Class.terminator done f)
 at_instruction {s} {q} {end} (here {fs = fs} {b = b} {stop = stop} hd kids more) =
     let t = instr_at s q end b stop (kind_here s q) _ _ hd.is hd in
     at_instr (subst (InstrStep s q end) hd.stop_is (record {
+      alone = alone Class.instruction instr_after hd kids;
+      kind = instr_kind (kind_here s q) _ _ hd.is;
       vs = read_values fs s stop (q + head_width);
       at = t.1;
       high = hd.high;
@@ -118,12 +142,32 @@ instr_here_lem f l k = elim (at_record f) [ at_end e ↦ absurd (omega arith) | 
 pub term_here_lem : {s : List ℕ} {q end : ℕ} → BlockFrom s q end → q < end → 81 < kind_here s q → TermStep s q end
 term_here_lem f l k = elim (at_record f) [ at_end e ↦ absurd (omega arith) | at_instr I ↦ absurd (omega (arith, I.at.high)) | at_term T ↦ T ]
 
--- what is known of it by the kind and the stop that were read
-pub instr_to : {s : List ℕ} {q end : ℕ} (kind stop : ℕ) → InstrStep s q end (stop_here s q) → kind ≡ kind_here s q → stop ≡ stop_here s q → end ≤ length s → InstrTo s q stop kind
-instr_to kind stop I k e h = rw (k, e) (record { place = placed I.at (omega (arith, I.high)); room = I.at.fits; inside = omega (arith, I.high) })
+-- what is left after it; its kind
+pub rest_here : {s : List ℕ} {q end : ℕ} → BlockFrom s q end → q < end → BlockFrom s (stop_here s q) end
+unfolding may_end
+rest_here f l = elim (at_record f) [ at_end e ↦ absurd (omega arith) | at_instr I ↦ I.next | at_term T ↦ rw (← T.stop_is) (ends refl refl) ]
 
-pub term_place : {s : List ℕ} {q end : ℕ} (kind : ℕ) → TermStep s q end → kind ≡ kind_here s q → end ≤ length s → TermPlace s q kind
-term_place kind T k h = rw k (record { low = T.at.low; high = T.at.high; fits = omega (arith, T.at.fits) })
+pub kind_there : {s : List ℕ} {q end : ℕ} → BlockFrom s q end → q < end → (k : InBlock) × (in_block_number k ≡ kind_here s q)
+kind_there f l = elim (at_record f) [ at_end e ↦ absurd (omega arith) | at_instr I ↦ (in_block.Instruction I.kind.0, I.kind.1) | at_term T ↦ (in_block.Terminator T.kind.0, T.kind.1) ]
+
+-- A RECORD BY ITSELF
+pub instr_alone : {s : List ℕ} {q stop k : ℕ} → Fine s q stop (one Class.instruction done) → stop ≤ length s → k ≡ kind_here s q → InstrTo s q stop k
+instr_alone {s} {q} {stop} f l e = rw e (go (one_step Class.instruction done f))
+  where
+    go : One s q stop Class.instruction done → InstrTo s q stop (kind_here s q)
+    go (this {fs = fs} {q = p} {b = b} {stop = x} hd kids more) =
+        let I = (instr_at s q stop b x (kind_here s q) _ _ hd.is hd).1 in
+        let z : x ≡ stop = done_ends more in
+        record { place = placed I (omega arith); room = omega (arith, I.fits); inside = l }
+
+pub term_alone : {s : List ℕ} {q stop k : ℕ} → Fine s q stop (one Class.terminator done) → stop ≤ length s → k ≡ kind_here s q → TermPlace s q k
+term_alone {s} {q} {stop} f l e = rw e (go (one_step Class.terminator done f))
+  where
+    go : One s q stop Class.terminator done → TermPlace s q (kind_here s q)
+    go (this {fs = fs} {q = p} {b = b} {stop = x} hd kids more) =
+        let T = (term_at s q stop b x (kind_here s q) _ _ hd.is hd).1 in
+        let z : x ≡ stop = done_ends more in
+        record { low = T.low; high = T.high; fits = omega (arith, T.fits) }
 
 -- THE INSTRUCTIONS AND THE TERMINATOR of a block's records from q on
 module _ {s : List ℕ} {q end stop : ℕ} (I : InstrStep s q end stop) where
@@ -205,9 +249,6 @@ at_blocks f = block_step (many_step Class.basic_block done f)
 
 pub block_here_lem : {s : List ℕ} {b end : ℕ} → BlocksFrom s b end → b < end → BlockStep s b end (stop_here s b)
 block_here_lem f l = elim (at_blocks f) [ no_block_lem e ↦ absurd (omega arith) | at_block B ↦ B ]
-
-pub block_to : {s : List ℕ} {b stop end : ℕ} → BlocksFrom s b stop → b < stop → BlockEnds s b stop end → BlockStep s b stop end
-block_to f l e = rw (e.1 l) (block_here_lem f l)
 
 pub blocks_step : {s : List ℕ} {b end stop : ℕ} → BlockStep s b end stop → blocks_here s b end ≡ block_here s b stop ∷ blocks_here s stop end
 unfolding blocks_here instrs_here terminator_here

@@ -1,3 +1,5 @@
 pub mod Offsets
 pub mod Positions
+pub mod Standing
 pub mod Definitions
+pub mod Nodes

@@ -1,37 +1,19 @@
 -- What stands at the places of a program sheet that passed 40: its records by position. Helpers of contracts: no public promise cites them.
 -- Assumes nothing: these are definitions.
-use Rattle.std.specs.Prelude.{ℕ, ◌+◌, ◌-◌, ◌*◌, ◌/◌, ◌%◌, ◌^◌, ◌≤◌, ◌<◌, ◌≡◌, Bool, true, ◌&&◌, List, ◌∷◌, map, leb, eqb, length}
+use Rattle.std.specs.Prelude.{ℕ, ◌+◌, ◌-◌, ◌*◌, ◌/◌, ◌%◌, ◌^◌, ◌≤◌, ◌<◌, ◌≡◌, Bool, true, false, ◌&&◌, List, ◌∷◌, map, leb, eqb, length}
 use Rattle.std.proofs.Math.Option.{Option, none, some}
 use Rattle.definitions.specs.Fields.{le}
-use Rattle.definitions.specs.Ir.{IrType, tag_of, name_of, unless_void, Instruction, result_type, Terminator, InstrNode, BasicBlock, IrFunction}
+use Rattle.definitions.specs.Ir.{IrType, Instruction, result_type, Terminator, InstrNode, BasicBlock, IrFunction}
 use Rattle.definitions.specs.Grammar.{Class, up_to, ir_type, value_and_type, done, perhaps, many}
 use Rattle.definitions.specs.Records.{pick, Item, ok_type, ok_items, number_of, type_of, type_from, opt_from, read_items, read_records, gather}
-use Rattle.definitions.specs.InstrTable.{kind_of}
+use Rattle.definitions.specs.InstrTable.{ResultRule, kind_row, kind_of, type_by}
 use Rattle.definitions.specs.Verify.{function_ids}
 use Rattle.definitions.specs.ProgramSheet.{binary_of, instr_node_of, block_of, term_of, first_of, ir_function_of}
 use Rattle.definitions.specs.Fine.{Fine}
-use Rattle.ir.specs.Kinds.{rule_number}
+use Rattle.ir.specs.Kinds.{rule_in}
 use Rattle.program_nodes.specs.Offsets.{kind_at, function_id_at, function_name_at, return_type_at, param_count_at, first_param_at, block_id_at, records_at, fields_at, own_at, left_at, right_at, call_args_at, event_args_at}
-use Rattle.program_nodes.specs.declared.Function.{Function}
 
--- TYPES as one number of four bytes; 65,535 stands for none
-abbrev pub raw_type : IrType → ℕ
-raw_type t = tag_of t + 65536 * name_of t
-
-abbrev pub raw_opt : Option IrType → ℕ
-raw_opt none = 65535
-raw_opt (some t) = raw_type t
-
--- the type that has a number
-abbrev pub from_raw : ℕ → IrType
-from_raw raw = type_from (raw % 65536) (raw / 65536 % 65536)
-
--- r is the number of a type, or of none
-pub record Numbered (t : Option IrType) (r : ℕ) : Type 0 where
-  pub is : r ≡ raw_opt t
-  pub small : r < 2 ^ 32
-
--- the type in the four bytes at a place; a type stands there
+-- TYPES: the type in the four bytes at a place; a type stands there
 unfoldable pub type_here : List ℕ → ℕ → IrType
 type_here s p = type_from (le 2 s p) (le 2 s (p + 2))
 
@@ -68,7 +50,7 @@ instr_here k s q stop =
     (Instruction.ContextRead (le 2 s (q + own_at))))))))))))))
 
 -- how many bytes of it are head and fixed fields
-unfoldable pub size_here : ℕ → ℕ
+abbrev pub size_here : ℕ → ℕ
 size_here k =
     own_at + pick (eqb k 60) 12 (pick (leb k 70) 8 (pick (eqb k 71) 14 (pick (eqb k 72) 12 (pick (eqb k 73) 8 (pick (eqb k 74) 6 (pick (eqb k 75) 6
     (pick (eqb k 76) 4 (pick (eqb k 77) 6 (pick (eqb k 78) 2 (pick (eqb k 79) 4 2))))))))))
@@ -80,14 +62,22 @@ has_type k = pick (leb k 71) true (pick (eqb k 73) true (pick (eqb k 75) true (e
 abbrev pub type_offset : ℕ → ℕ
 type_offset k = pick (leb k 73) own_at (own_at + 2)
 
--- the result's type by the number of its rule, for an instruction of type t
-abbrev pub by_rule : ℕ → IrType → ℕ
-by_rule r t = pick (eqb r 1) (raw_type t) (pick (eqb r 2) (raw_opt (unless_void t)) (pick (eqb r 3) 1 (pick (eqb r 4) 0 65535)))
+-- the result's type by its rule, for an instruction of type t
+abbrev pub by_rule : Option ResultRule → IrType → Option IrType
+by_rule none t = none
+by_rule (some r) t = type_by r t
 
--- a kind whose rule is its own type has one, only Call has the rule with Void, and the type lies within the fixed fields
+-- a kind whose rule has a type of its own has one, and it lies within the fixed fields
+abbrev pub own_rule : Option ResultRule → Bool
+own_rule none = false
+own_rule (some ResultRule.own) = true
+own_rule (some ResultRule.own_unless_void) = true
+own_rule (some ResultRule.bool) = false
+own_rule (some ResultRule.u64) = false
+own_rule (some ResultRule.nothing) = false
+
 unfoldable pub rule_test : ℕ → Bool
-rule_test k =
-    pick (eqb (rule_number k) 1) (has_type k) true && (pick (eqb (rule_number k) 2) (eqb k 77) true && pick (has_type k) (leb (type_offset k + 4) (size_here k)) true)
+rule_test k = pick (own_rule (rule_in (kind_row k))) (has_type k) true && pick (has_type k) (leb (type_offset k + 4) (size_here k)) true
 
 -- an instruction of kind k stands at q; its record stops at `stop`
 pub record InstrPlace (s : List ℕ) (q k : ℕ) : Type 0 where
@@ -95,18 +85,14 @@ pub record InstrPlace (s : List ℕ) (q k : ℕ) : Type 0 where
   pub high : k ≤ 81
   pub fits : q + size_here k ≤ length s
   pub rules : rule_test k ≡ true
-  pub typed : has_type k ≡ true → TypeAt s (q + type_offset k)
   pub kind_is : (stop : ℕ) → kind_of (instr_here k s q stop) ≡ k
-  pub gives : (stop : ℕ) → raw_opt (result_type (instr_here k s q stop)) ≡ by_rule (rule_number k) (type_here s (q + type_offset k))
+  pub gives : (stop : ℕ) → result_type (instr_here k s q stop) ≡ by_rule (rule_in (kind_row k)) (type_here s (q + type_offset k))
+  pub context : eqb k 81 ≡ true → leb (le 2 s (q + own_at)) 2 ≡ true
 
 pub record InstrTo (s : List ℕ) (q stop k : ℕ) : Type 0 where
   pub place : InstrPlace s q k
   pub room : q + size_here k ≤ stop
   pub inside : stop ≤ length s
-
--- r is the number of the type of its result
-abbrev pub ResultNumbered : List ℕ → (q k r : ℕ) → Type 0
-ResultNumbered s q k r = (stop : ℕ) → Numbered (result_type (instr_here k s q stop)) r
 
 -- TERMINATORS: the one of kind k at q, and how many bytes it has
 unfoldable pub term_here : ℕ → List ℕ → ℕ → Terminator
@@ -140,12 +126,9 @@ blocks_here s p end = gather 53 53 block_of (read_records s p end)
 abbrev pub BlockFrom : List ℕ → ℕ → ℕ → Type 0
 BlockFrom s q end = Fine s q end (many Class.instruction (perhaps Class.terminator done))
 
--- the blocks of a function from b on; the end of the one at b, if there is one
+-- the blocks of a function from b on
 abbrev pub BlocksFrom : List ℕ → ℕ → ℕ → Type 0
 BlocksFrom s b stop = Fine s b stop (many Class.basic_block done)
-
-abbrev pub BlockEnds : List ℕ → ℕ → ℕ → ℕ → Type 0
-BlockEnds s b stop end = (b ≤ end) × (b < stop → end ≡ stop_here s b)
 
 -- FUNCTIONS: the parameters of the one at `at`, the place of its count of locals, and where its blocks start
 unfoldable pub params_here : List ℕ → ℕ → List (ℕ × IrType)
@@ -189,9 +172,6 @@ function_here s at first stop = record {
   locals = types_here (le 2 s (locals_at s at)) s (locals_at s at + 2);
 }
 
-abbrev pub ir_of : List ℕ → Function → IrFunction
-ir_of s f = function_here s f.at f.first f.stop
-
 -- a function stands at `at`
 pub record FunctionStarts (s : List ℕ) (at : ℕ) : Type 0 where
   pub program : ProgramHere s
@@ -199,15 +179,15 @@ pub record FunctionStarts (s : List ℕ) (at : ℕ) : Type 0 where
   pub there : at < length s
   pub kind : kind_here s at ≡ 51
 
--- f is a function of the sheet: its fields and its blocks as they passed, and what stands after it
-pub record FunctionHere (s : List ℕ) (f : Function) : Type 0 where
+-- a function of the sheet: its fields and its blocks as they passed, and what stands after it
+pub record FunctionHere (s : List ℕ) (at first stop name : ℕ) : Type 0 where
   pub program : ProgramHere s
-  pub name_is : f.name.0 ≡ le 2 s (f.at + function_name_at)
-  pub first_is : f.first ≡ first_block s f.at
-  pub low : f.first ≤ f.stop
-  pub inside : f.stop ≤ length s
-  pub blocks : BlocksFrom s f.first f.stop
-  pub params : ok_items value_and_type (le 2 s (f.at + param_count_at)) s (f.at + first_param_at) ≡ true
-  pub returns : TypeAt s (f.at + return_type_at)
-  pub next : FunctionsFrom s f.stop
-  pub read : functions_here s f.at (length s) ≡ ir_of s f ∷ functions_here s f.stop (length s)
+  pub name_is : name ≡ le 2 s (at + function_name_at)
+  pub first_is : first ≡ first_block s at
+  pub low : first ≤ stop
+  pub inside : stop ≤ length s
+  pub blocks : BlocksFrom s first stop
+  pub params : ok_items value_and_type (le 2 s (at + param_count_at)) s (at + first_param_at) ≡ true
+  pub returns : TypeAt s (at + return_type_at)
+  pub next : FunctionsFrom s stop
+  pub read : functions_here s at (length s) ≡ function_here s at first stop ∷ functions_here s stop (length s)

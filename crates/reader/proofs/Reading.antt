@@ -17,9 +17,9 @@ pub none : (n : ℕ) (s : List ℕ) (at : ℕ) → Held n s at n 0
 unfolding le
 none n s at = record { within = omega arith; is = rw sub_self; below = rw sub_self (omega arith) }
 
-pub more : {n : ℕ} {s : List ℕ} {at i sum : ℕ} → Held n s at i sum → 0 < i → {b : ℕ} → (b ≡ get_or s (at + (i - 1)) 0) × (b < 256) → Held n s at (i - 1) (sum * 256 + b)
+pub more : {n : ℕ} {s : List ℕ} {at i sum : ℕ} → Held n s at i sum → 0 < i → get_or s (at + (i - 1)) 0 < 256 → Held n s at (i - 1) (sum * 256 + get_or s (at + (i - 1)) 0)
 unfolding le
-more {n} {s} {at} {i} {sum} h pos {b} hb =
+more {n} {s} {at} {i} {sum} h pos byte =
     let w : i ≤ n = h.within in
     let e : n - (i - 1) ≡ suc (n - i) = omega arith in
     let f : at + (i - 1) + 1 ≡ at + i = omega arith in

@@ -2,26 +2,16 @@
 #![tactic(auto)]
 
 ghost use Rattle.std.specs.Prelude.{◌≡◌, ◌+◌, ◌^◌, ◌≤◌, ◌<◌, length};
-ghost use Rattle.definitions.specs.Fields.{le, Bytes};
+ghost use Rattle.definitions.specs.Fields.{le};
 
-fn wide(x: u8) -> usize
-    ensures { (result ≡ x) × (result < 256) }
-{
-    x as usize
-}
-
-// The number in the n bytes at a place. The loop stands apart from the reader: a function over a struct that holds a reference is proved by a walk
-// by hand, which has no loop.
+// The number in the n bytes at a place.
 fn number(s: &[u8], at: usize, n: usize) -> usize
     requires { (at + n ≤ length s.now) × (n ≤ 8) }
     ensures { (result ≡ le n s.now at) × (result < 256 ^ n) }
 {
-    let mut i = n;
     let mut sum: usize = 0;
-    while 0 < i {
-        i -= 1;
-        let at_i = at + i;
-        sum = sum * 256 + wide(s[at_i]);
+    for i in (0..n).rev() {
+        sum = sum * 256 + s[at + i] as usize;
     }
     sum
 }
@@ -33,19 +23,21 @@ pub struct Reader<'a> {
     pub at: usize,
 }
 
-// A reader of these bytes at this position; it need not stand within them.
-pub fn new<'a>(src: &'a [u8], at: usize) -> Reader<'a>
-    ensures { (result.src ≡ src.entry) × (result.at ≡ at) }
-{
-    Reader { src, at }
-}
+impl<'a> Reader<'a> {
+    // A reader of these bytes at this position; it need not stand within them.
+    pub fn new(src: &'a [u8], at: usize) -> Reader<'a>
+        ensures { (result.src ≡ src.entry) × (result.at ≡ at) }
+    {
+        Reader { src, at }
+    }
 
-// The number in the n bytes at the reader's position.
-pub fn field<'a>(r: Reader<'a>, n: usize) -> usize
-    requires { (r.at + n ≤ length r.src.now) × (n ≤ 8) }
-    ensures { (result ≡ le n r.entry.src.now r.entry.at) × (result < 256 ^ n) }
-{
-    number(r.src, r.at, n)
+    // The number in the n bytes at the reader's position.
+    pub fn field(self, n: usize) -> usize
+        requires { (self.at + n ≤ length self.src.now) × (n ≤ 8) }
+        ensures { (result ≡ le n self.entry.src.now self.entry.at) × (result < 256 ^ n) }
+    {
+        number(self.src, self.at, n)
+    }
 }
 
 // The same, for a caller that keeps no reader.
@@ -53,7 +45,7 @@ pub fn read(s: &[u8], at: usize, n: usize) -> usize
     requires { (at + n ≤ length s.now) × (n ≤ 8) }
     ensures { (result ≡ le n s.now at) × (result < 256 ^ n) }
 {
-    field(new(s, at), n)
+    Reader::new(s, at).field(n)
 }
 
 // The u16 at a place.
@@ -62,15 +54,4 @@ pub fn read_u16(s: &[u8], at: usize) -> u16
     ensures { result ≡ le 2 s.now at }
 {
     read(s, at, 2) as u16
-}
-
-// Shows that the elements of a slice of bytes are below 256: a read gives that of one. Nothing of it is left in the compiled code.
-pub fn all_bytes(s: &[u8])
-    ensures { Bytes s.now }
-{
-    let mut i = 0;
-    while i < s.len() {
-        wide(s[i]);
-        i += 1;
-    }
 }

@@ -5,108 +5,126 @@
 // No contract can say which bytes are read or written: `lines::lower_line`, `verify_line` and `contract_line` have the contracts on the bytes.
 #![tactic(auto)]
 
-ghost use Rattle.std.specs.Prelude.{◌≡◌, ◌≤◌, length, take};
-ghost use Rattle.console.specs.Input.{InputFits};
+ghost use Rattle.std.specs.Prelude.{IfSome};
+ghost use Rattle.io.specs.Counts.{IsPrefixLen};
 
-use console::Input;
 use format::MOST;
 use lines::{LINE, LOWERED_LINE};
+use std::error::Error;
+use std::fmt;
 
-// Reads n bytes to the start of `sheet`, fewer if the input ends. Where `sheet` is too short, it reads nothing.
-fn read_sheet(rt: &HostRuntime, n: usize, sheet: &mut [u8]) -> Input
-    ensures { InputFits result sheet.new }
-{
-    if sheet.len() < n {
-        return Input::Failed;
+// What is asked of a sheet.
+#[derive(Clone, Copy, Debug, PartialEq, Eq)]
+enum Asked {
+    Lower,
+    Verify,
+    Check,
+}
+
+// A letter that asks nothing.
+#[derive(Clone, Copy, Debug, PartialEq, Eq)]
+struct UnknownLetter(u8);
+
+impl fmt::Display for UnknownLetter {
+    fn fmt<W: fmt::Write>(&self, f: &mut fmt::Formatter<W>) -> fmt::Result {
+        write!(f, "{} asks nothing", self.0)
     }
-    console::read(rt, &mut sheet[..n])
+}
+
+impl Error for UnknownLetter {}
+
+impl TryFrom<u8> for Asked {
+    type Error = UnknownLetter;
+
+    fn try_from(letter: u8) -> Result<Asked, UnknownLetter> {
+        match letter {
+            b'L' => Ok(Asked::Lower),
+            b'V' => Ok(Asked::Verify),
+            b'C' => Ok(Asked::Check),
+            _ => Err(UnknownLetter(letter)),
+        }
+    }
 }
 
 // The longest sheet of a list: a byte more than a sheet may have, so that refusal 1 occurs.
 const LONGEST: usize = MOST + 1;
 
-// What is asked of the next sheet, and its length. The end of the input asks nothing, which is 0, and so does a read that failed.
-#[derive(Clone, Copy)]
+// The letter before the next sheet, and the sheet's length.
+#[derive(Clone, Copy, Debug, PartialEq, Eq)]
 struct Head {
-    asked: u8,
+    letter: u8,
     length: usize,
 }
 
-fn no_head() -> Head {
-    Head {
-        asked: 0,
-        length: 0,
-    }
-}
-
-fn read_head(rt: &HostRuntime) -> Head {
+// There is no head at the end of the input, after a read that failed, and where the letter is 0.
+fn read_head(rt: &HostRuntime) -> Option<Head> {
     let mut head = [0u8; 5];
-    let Input::Read(n) = console::read(rt, &mut head) else {
-        return no_head();
-    };
-    if n < 5 {
-        return no_head();
+    let n = console::read(rt, &mut head)?;
+    if n < head.len() || head[0] == 0 {
+        return None;
     }
-    Head {
-        asked: head[0],
+    Some(Head {
+        letter: head[0],
         length: reader::read(&head, 1, 4),
-    }
+    })
 }
 
-// Puts the line of the answer into `out`, and gives its length: 0 where something else is asked.
-fn answer_line(asked: u8, sheet: &[u8], out: &mut [u8; LINE]) -> usize
-    ensures { (result ≤ length out.new) × (result ≡ length (take result out.new)) }
+// Reads n bytes to the start of `sheet`, fewer if the input ends. Where `sheet` is too short, it reads nothing.
+fn read_sheet(rt: &HostRuntime, n: usize, sheet: &mut [u8]) -> Option<usize>
+    ensures { IfSome result (λ n. IsPrefixLen n sheet.new) }
 {
-    match asked {
-        b'V' => lines::verify_line(sheet, out),
-        b'C' => lines::contract_line(sheet, out),
-        _ => 0,
+    if sheet.len() < n {
+        return None;
     }
+    console::read(rt, &mut sheet[..n])
 }
 
-// Prints the line of a contract sheet that is lowered.
-fn print_lowered(rt: &HostRuntime, sheet: &[u8]) -> bool {
+// Prints the line of a contract sheet that is lowered. None of these answers where the line cannot be printed.
+fn print_lowered(rt: &HostRuntime, sheet: &[u8]) -> Option<()> {
     let mut out = [0u8; MOST];
     let mut text = [0u8; LOWERED_LINE];
     let k = lines::lower_line(sheet, &mut out, &mut text);
-    rt.write_all(&text[..k]).is_ok()
+    rt.write_all(&text[..k]).ok()
 }
 
-// Prints the line of the answer to anything else that is asked.
-fn print_answer(rt: &HostRuntime, asked: u8, sheet: &[u8]) -> bool {
+// Prints the line of a program sheet that is verified.
+fn print_verified(rt: &HostRuntime, sheet: &[u8]) -> Option<()> {
     let mut text = [0u8; LINE];
-    let k = answer_line(asked, sheet, &mut text);
-    rt.write_all(&text[..k]).is_ok()
+    let k = lines::verify_line(sheet, &mut text);
+    rt.write_all(&text[..k]).ok()
 }
 
-fn print_line(rt: &HostRuntime, asked: u8, sheet: &[u8]) -> bool {
-    if asked == b'L' {
-        return print_lowered(rt, sheet);
-    }
-    print_answer(rt, asked, sheet)
+// Prints the line of a contract sheet that is checked.
+fn print_checked(rt: &HostRuntime, sheet: &[u8]) -> Option<()> {
+    let mut text = [0u8; LINE];
+    let k = lines::contract_line(sheet, &mut text);
+    rt.write_all(&text[..k]).ok()
 }
 
-// Reads one sheet, prints its line, and answers whether there was one.
-fn replay_one(rt: &HostRuntime) -> bool {
-    let head = read_head(rt);
-    let n = head.length;
-    if head.asked == 0 || LONGEST < n {
-        return false;
+// Reads one sheet and prints its line, or nothing where the letter asks nothing. There is no answer where the list has ended.
+fn replay_one(rt: &HostRuntime) -> Option<()> {
+    let head = read_head(rt)?;
+    if LONGEST < head.length {
+        return None;
     }
     let mut sheet = io::large_buffer();
-    let Input::Read(got) = read_sheet(rt, n, &mut sheet) else {
-        return false;
-    };
-    print_line(rt, head.asked, &sheet[..got])
+    let n = read_sheet(rt, head.length, &mut sheet)?;
+    match Asked::try_from(head.letter) {
+        Ok(Asked::Lower) => print_lowered(rt, &sheet[..n]),
+        Ok(Asked::Verify) => print_verified(rt, &sheet[..n]),
+        Ok(Asked::Check) => print_checked(rt, &sheet[..n]),
+        Err(UnknownLetter(_)) => Some(()),
+    }
 }
 
-// A proved loop has to end, so it counts its turns down.
+// A proved loop has to end, so its turns are counted.
 fn main(rt: HostRuntime) {
     if !console::has_args(&rt, 0, b"replay < LIST") {
         return;
     }
-    let mut turns = u64::MAX;
-    while 0 < turns && replay_one(&rt) {
-        turns -= 1;
+    for _ in 0..u64::MAX {
+        if replay_one(&rt).is_none() {
+            return;
+        }
     }
 }

@@ -3,11 +3,15 @@ use mathlib.Core.Path.{◌≡◌, sym, ap, ◌∙◌}
 use mathlib.Core.List.{List}
 use Prim.Native.Nat.{ℕ, ◌+◌, ◌<◌, ◌≤◌}
 use native.Mathlib.Omega.{arith}
+use lib.ListN.{length}
 use Rattle.definitions.specs.Grammar.{Class, Field, Pattern, rows}
-use Rattle.definitions.specs.Records.{row_in, row_fields, fields_end, read_values}
+use Rattle.definitions.specs.Records.{no_row, row_in, row_fields, fields_end, read_values}
 use Rattle.definitions.specs.Fine.{Head, Fine, ends, goes}
 use Rattle.definitions.proofs.Sheets.Passed.{read_step}
-use Rattle.sheet.specs.Passed.{Passed, Node, record_kind, stop_of, body_of, values_at}
+use Rattle.format.specs.Kinds.{number_of}
+use Rattle.format.specs.declared.kinds.Kind.{Kind}
+use Rattle.sheet.proofs.Rows.{unknown}
+use Rattle.sheet.specs.Passed.{Passed, Standing, Node, record_kind, stop_of, body_of, values_at}
 
 unfoldable pub node_of : {c : Class} {fs : List Field} {p r : Pattern} {s : List ℕ} {at end b stop : ℕ} → Head s at end c fs p b stop → Fine s b stop p → Fine s stop end r → Node s at end
 unfolding body_of values_at row_fields
@@ -39,6 +43,21 @@ in_order {s} {at} {end} p = go p.fine
     go : {q : Pattern} → Fine s at end q → at ≤ end
     go (ends z m) = omega arith
     go (goes hd a kids rest) = omega (arith, hd.low, hd.mid, hd.high)
+
+-- its kind is one that `Kind::try_from` knows
+pub known : {s : List ℕ} {at stop k : ℕ} → Standing s at stop k → {n : ℕ} → n ≡ record_kind s at → ((i : Kind) → number_of i ≡ n → ⊥) → ⊥
+known {s} {at} w e f =
+    let h = opens w.passed w.starts in
+    let a : row_in (record_kind s at) rows ≡ no_row = rw (← e) (unknown f) in
+    absurd (cc (a, h.head.is))
+
+-- and its head fits
+pub spans : {s : List ℕ} {at stop k : ℕ} → Standing s at stop k → (at + 6 ≤ stop) × (stop ≤ length s)
+spans {s} {at} {stop} w =
+    let h = (opens w.passed w.starts).head in
+    let e : stop ≡ stop_of s at = w.stop_is in
+    let i : w.end ≤ length s = w.inside in
+    (omega (arith, h.low, h.mid), omega (arith, h.high))
 
 -- BY KIND: the fields of the row of a kind say where the children start, and what the fields are
 module _ {s : List ℕ} {at end : ℕ} (n : Node s at end) where

@@ -1,12 +1,10 @@
 -- How wide a record that passed is: the ways of the code through `too_wide`. Assumes nothing.
 use mathlib.Core.Path.{◌≡◌, sym, ap, ◌∙◌}
-use mathlib.Core.Bool.{false}
 use mathlib.Core.List.{List, [], ◌∷◌}
 use Prim.Native.Nat.{ℕ, ◌+◌, ◌-◌, ◌/◌, ◌≤◌}
 use native.Mathlib.Omega.{arith}
 use lib.Dec.{leb}
 use lib.ListN.{length}
-use borrow.Author.Tests.{ne_eqb}
 use Rattle.definitions.specs.Fields.{le}
 use Rattle.definitions.specs.Grammar.{rows, up_to, name_and_type, listed}
 use Rattle.definitions.specs.Records.{size_of, FieldValue, field_end, fields_end, row_in, row_fields, read_value, read_values, read_records, items_at}
@@ -16,9 +14,6 @@ use Rattle.definitions.proofs.Sheets.Singles.{after, starts}
 use Rattle.sheet.specs.Limits.{too_wide}
 use Rattle.sheet.specs.Passed.{Node, Passed, Standing, record_kind, stop_of, body_of, values_at, children_of}
 use Rattle.sheet.proofs.Nodes.{opens, head_of, children_of_lem, values_of}
-
-abbrev Others : ℕ → Type 0
-Others k = (((Unit {0} × (k ≡ 3 → ⊥)) × (k ≡ 4 → ⊥)) × (k ≡ 19 → ⊥)) × (k ≡ 37 → ⊥)
 
 module _ {s : List ℕ} {at stop k : ℕ} (w : Standing s at stop k) where
   n : Node s at w.end
@@ -71,7 +66,3 @@ module _ {s : List ℕ} {at stop k : ℕ} (w : Standing s at stop k) where
     pub arguments_wide : ((v : List FieldValue) (m : ℕ) → too_wide j v m ≡ leb 17 m) → {x : ℕ} → x ≡ count_trees (read_records s (at + 8) stop)
         → leb 17 x ≡ too_wide k (values_at s at) (count_trees (children_of s at))
     arguments_wide h g = rw (e, h, arguments_start, ← es, g)
-
-  pub not_wide : Others k → false ≡ too_wide k (values_at s at) (count_trees (children_of s at))
-  unfolding too_wide
-  not_wide o = rw (ne_eqb k 3 o.0.0.0.1, ne_eqb k 4 o.0.0.1, ne_eqb k 19 o.0.1, ne_eqb k 37 o.1)

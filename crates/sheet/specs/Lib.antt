@@ -1,4 +1,4 @@
-pub mod Codes
 pub mod Forms
-pub mod Passed
 pub mod Limits
+pub mod Passed
+pub mod Tables

@@ -2,76 +2,58 @@
 // limits (4) of a contract sheet. 3, 4 and 40 have a place.
 #![tactic(auto)]
 
-ghost use Rattle.std.specs.Prelude.{◌≡◌};
-ghost use Rattle.definitions.specs.Answers.{check_contract};
-ghost use Rattle.definitions.specs.ContractSheet.{refusal3, refusal4};
-ghost use Rattle.definitions.specs.Records.{Good};
-ghost use Rattle.definitions.specs.ProgramSheet.{refusal40};
-ghost use Rattle.sheet.specs.Forms.{form_of, limits_of, check_of};
-
+pub mod errors; // why a sheet is refused
 mod fixed_fields; // the fixed fields of a record
 mod limits; // refusal 4
 pub mod places; // where things stand in a record that passed
 mod records; // refusals 3 and 40
 mod tables; // a row for each record kind
 
-// Good, or the place of the fault.
-#[derive(Clone, Copy)]
-pub enum Form {
-    Good,
-    Bad(usize),
-}
+ghost use Rattle.std.specs.Prelude.{◌≡◌};
+ghost use Rattle.definitions.specs.Answers.{check_contract};
+ghost use Rattle.definitions.specs.ContractSheet.{refusal3, refusal4};
+ghost use Rattle.definitions.specs.Records.{Good};
+ghost use Rattle.definitions.specs.ProgramSheet.{refusal40};
+ghost use Rattle.ir.specs.Answers.{done_of};
+ghost use Rattle.sheet.specs.Forms.{form_of, limits_of, refusal_of};
 
-// Within the limits, or the place of the first record that is over one.
-#[derive(Clone, Copy)]
-pub enum LimitCheck {
-    Within,
-    Over(usize),
-}
-
-// What lowering asks of a contract sheet before the walk.
-#[derive(Clone, Copy)]
-pub enum ContractCheck {
-    Passed,
-    TooLong,
-    Malformed(usize),
-    OverLimit(usize),
-}
+pub use errors::{ContractError, Malformed, OverLimit};
+use limits::limits;
+use records::records;
+use tables::{ONE_CONTRACT, ONE_PROGRAM};
 
 // Refusal 3: one contract and nothing after it.
-pub fn contract_form(s: &[u8]) -> Form
+#[tactic(auto, unfolding(definitions::specs::ContractSheet::refusal3))]
+pub fn contract_form(s: &[u8]) -> Result<(), Malformed>
     ensures { form_of result ≡ refusal3 s.now }
 {
-    records::form(records::records(s, 0, s.len(), tables::ONE_CONTRACT))
+    records(s, 0, s.len(), ONE_CONTRACT)
 }
 
 // Refusal 40: one program and nothing after it.
-pub fn program_form(s: &[u8]) -> Form
+#[tactic(auto, unfolding(definitions::specs::ProgramSheet::refusal40))]
+pub fn program_form(s: &[u8]) -> Result<(), Malformed>
     ensures { form_of result ≡ refusal40 s.now }
 {
-    records::form(records::records(s, 0, s.len(), tables::ONE_PROGRAM))
+    records(s, 0, s.len(), ONE_PROGRAM)
 }
 
 // Refusal 4, of a contract sheet whose form is good.
-fn contract_limits(s: &[u8]) -> LimitCheck
+fn contract_limits(s: &[u8]) -> Result<(), OverLimit>
     requires { refusal3 s.now ≡ Good }
     ensures { limits_of result ≡ refusal4 s.now }
 {
-    limits::limits(s, 0, s.len(), 1)
+    limits(s, 0, s.len(), 1)
 }
 
 // Refusals 1, 3 and 4 of a contract sheet, in this order.
-pub fn check_contract(s: &[u8]) -> ContractCheck
-    ensures { check_of result ≡ check_contract s.now }
+pub fn check_contract(s: &[u8]) -> Result<(), ContractError>
+    ensures { done_of refusal_of result ≡ check_contract s.now }
 {
     if format::MOST < s.len() {
-        return ContractCheck::TooLong;
+        return Err(ContractError::TooLong);
     }
-    match contract_form(s) {
-        Form::Good => match contract_limits(s) {
-            LimitCheck::Within => ContractCheck::Passed,
-            LimitCheck::Over(place) => ContractCheck::OverLimit(place),
-        },
-        Form::Bad(place) => ContractCheck::Malformed(place),
-    }
+    contract_form(s)?;
+    contract_limits(s)?;
+    Ok(())
 }

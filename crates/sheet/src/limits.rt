@@ -1,15 +1,17 @@
 // Refusal 4: the first record that is too many, too wide or too deep.
-ghost use Rattle.std.specs.Prelude.{◌≡◌, ◌≤◌, eqb, length};
-ghost use Rattle.definitions.specs.Records.{pick, read_records};
+ghost use Rattle.std.specs.Prelude.{◌≡◌, ◌+◌, ◌≤◌, ◌<◌, length};
+ghost use Rattle.definitions.specs.Records.{read_records};
 ghost use Rattle.definitions.specs.ContractSheet.{count_trees, none_before, limit_trees};
+ghost use Rattle.format.specs.Kinds.{number_of};
 ghost use Rattle.sheet.specs.Forms.{limits_of};
-ghost use Rattle.sheet.specs.Limits.{too_many, too_wide};
+ghost use Rattle.sheet.specs.Limits.{counts_of, total, and_kind, too_many, too_wide};
 ghost use Rattle.sheet.specs.Passed.{Passed, Standing, values_at, children_of};
 
-use crate::LimitCheck;
-use crate::places::{body_of, count};
+use crate::OverLimit;
+use crate::places::{body_of, count, kind_of};
 use format::contract::{AFTER_NAME, MOST_DEPTH, PARAM, PARAM_COUNT};
-use format::{KIND, kinds};
+use format::kinds::{Expr, Item, Kind, Stmt};
+use format::{COUNT, LENGTH_BYTES};
 use reader::read;
 
 // What a contract may have at most of each, a struct of fields, a function of parameters, an Emit or a Call of arguments.
@@ -25,71 +27,82 @@ const MOST_PARAMS: usize = 16;
 
 const MOST_ARGUMENTS: usize = 16;
 
-// Whether a record is one too many, after so many storage fields, structs and functions.
-fn too_many(kind: usize, storage: usize, structs: usize, functions: usize) -> bool
-    ensures { result ≡ too_many kind storage structs functions }
-{
-    match kind {
-        kinds::STORAGE => MOST_STORAGE <= storage,
-        kinds::STRUCT => MOST_STRUCTS <= structs,
-        kinds::FUNCTION => MOST_FUNCTIONS <= functions,
-        _ => false,
+// How many storage fields, structs and functions stand before a record.
+#[derive(Clone, Copy, Debug, PartialEq, Eq)]
+struct Counts {
+    storage: usize,
+    structs: usize,
+    functions: usize,
+}
+
+impl Counts {
+    const NONE: Counts = Counts {
+        storage: 0,
+        structs: 0,
+        functions: 0,
+    };
+
+    // Whether a record of this kind is one too many.
+    #[tactic(auto, unfolding(crate::specs::Limits::too_many))]
+    fn too_many(&self, kind: Kind) -> bool
+        ensures { result ≡ too_many (number_of kind) self.now.storage self.now.structs self.now.functions }
+    {
+        match kind {
+            Kind::Item(Item::Storage) => MOST_STORAGE <= self.storage,
+            Kind::Item(Item::Struct) => MOST_STRUCTS <= self.structs,
+            Kind::Item(Item::Function) => MOST_FUNCTIONS <= self.functions,
+            _ => false,
+        }
+    }
+
+    // Counts a record of this kind.
+    fn add(&mut self, kind: Kind)
+        requires { total (counts_of self.old) < 18446744073709551615 }
+        ensures { counts_of self.new ≡ and_kind (number_of kind) (counts_of self.old) }
+    {
+        match kind {
+            Kind::Item(Item::Storage) => self.storage += 1,
+            Kind::Item(Item::Struct) => self.structs += 1,
+            Kind::Item(Item::Function) => self.functions += 1,
+            _ => {}
+        }
     }
 }
 
 // Whether a record has over 64 fields, over 16 parameters or over 16 arguments.
-fn too_wide(s: &[u8], at: usize, stop: usize, kind: usize) -> bool
-    requires { Standing s.now at stop kind }
-    ensures { result ≡ too_wide kind (values_at s.now at) (count_trees (children_of s.now at)) }
+#[tactic(auto, unfolding(crate::specs::Limits::too_wide))]
+fn too_wide(s: &[u8], at: usize, stop: usize, kind: Kind) -> bool
+    requires { Standing s.now at stop (number_of kind) }
+    ensures { result ≡ too_wide (number_of kind) (values_at s.now at) (count_trees (children_of s.now at)) }
 {
     match kind {
-        kinds::STRUCT => MOST_FIELDS < (stop - (at + AFTER_NAME)) / PARAM,
-        kinds::FUNCTION => MOST_PARAMS < read(s, at + PARAM_COUNT, 2),
-        kinds::EMIT_STMT => MOST_ARGUMENTS < count(s, at + AFTER_NAME, stop),
-        kinds::CALL_EXPR => MOST_ARGUMENTS < count(s, at + AFTER_NAME, stop),
+        Kind::Item(Item::Struct) => MOST_FIELDS < (stop - (at + AFTER_NAME)) / PARAM,
+        Kind::Item(Item::Function) => MOST_PARAMS < read(s, at + PARAM_COUNT, COUNT),
+        Kind::Stmt(Stmt::Emit) => MOST_ARGUMENTS < count(s, at + AFTER_NAME, stop),
+        Kind::Expr(Expr::Call) => MOST_ARGUMENTS < count(s, at + AFTER_NAME, stop),
         _ => false,
     }
 }
 
-// 1 for a record of the kind that is counted.
-fn one_if(kind: usize, counted: usize) -> usize
-    ensures { (result ≡ pick (eqb kind counted) 1 0) × (result ≤ 1) }
-{
-    if kind == counted { 1 } else { 0 }
-}
-
 // The records from `at` to `end`, at a depth.
-pub(crate) fn limits(s: &[u8], at: usize, end: usize, depth: usize) -> LimitCheck
+pub(crate) fn limits(s: &[u8], at: usize, end: usize, depth: usize) -> Result<(), OverLimit>
     requires { Passed s.now at end × ((end ≤ length s.now) × (depth ≤ 41)) }
     ensures { limits_of result ≡ limit_trees (read_records s.now at end) depth none_before }
 {
     let mut place = at;
-    let mut storage = 0;
-    let mut structs = 0;
-    let mut functions = 0;
+    let mut before = Counts::NONE;
     while place < end {
-        let stop = place + read(s, place, 4);
-        let kind = read(s, place + KIND, 2);
-        if MOST_DEPTH < depth {
-            return LimitCheck::Over(place);
+        let stop = place + read(s, place, LENGTH_BYTES);
+        let kind = kind_of(s, place, stop);
+        if MOST_DEPTH < depth || before.too_many(kind) || too_wide(s, place, stop, kind) {
+            return Err(OverLimit(place));
         }
-        if too_many(kind, storage, structs, functions) {
-            return LimitCheck::Over(place);
-        }
-        if too_wide(s, place, stop, kind) {
-            return LimitCheck::Over(place);
-        }
-        storage += one_if(kind, kinds::STORAGE);
-        structs += one_if(kind, kinds::STRUCT);
-        functions += one_if(kind, kinds::FUNCTION);
+        before.add(kind);
         let body = body_of(s, place, stop, kind);
         if body < stop {
-            let inner = limits(s, body, stop, depth + 1);
-            if let LimitCheck::Over(fault) = inner {
-                return LimitCheck::Over(fault);
-            }
+            limits(s, body, stop, depth + 1)?;
         }
         place = stop;
     }
-    LimitCheck::Within
+    Ok(())
 }

@@ -1,44 +1,60 @@
 // Where things stand in a record that passed the check of its form: no validity is tested again.
 ghost use Rattle.std.specs.Prelude.{◌≡◌, ◌+◌, ◌*◌, ◌≤◌, length};
 ghost use Rattle.definitions.specs.Fields.{le};
-ghost use Rattle.definitions.specs.Records.{read_records};
+ghost use Rattle.definitions.specs.Records.{ok_field, field_end, read_records};
 ghost use Rattle.definitions.specs.ContractSheet.{count_trees};
-ghost use Rattle.sheet.specs.Passed.{Passed, Standing, body_of};
+ghost use Rattle.format.specs.Kinds.{number_of};
+ghost use Rattle.sheet.specs.Passed.{Passed, Standing, record_kind, body_of};
+ghost use Rattle.sheet.specs.Tables.{field_of};
 
-use crate::tables::{CHILDREN, DIGIT, FIXED, row_of};
-use format::{HEAD, TYPE, contract, program};
-use reader::read;
+use crate::tables::{Field, row_of};
+use format::kinds::Kind;
+use format::{COUNT, HEAD, ID, KIND, LENGTH_BYTES, TYPE, program};
+use reader::{read, read_u16};
 
-// The place after a count and so many items of a size.
-fn past_list(s: &[u8], at: usize, size: usize) -> usize
-    requires { (at + 2 + size * le 2 s.now at ≤ length s.now) × (size ≤ 6) }
-    ensures { result ≡ at + 2 + size * le 2 s.now at }
+// The place after a field.
+#[tactic(auto, unfolding(definitions::specs::Records::field_end, definitions::specs::Records::size_of))]
+fn field_end(s: &[u8], at: usize, stop: usize, field: Field) -> usize
+    requires { (field_end (field_of field) s.now stop at ≤ stop) × (stop ≤ length s.now) }
+    ensures { result ≡ field_end (field_of field) s.now stop at }
 {
-    at + 2 + size * read(s, at, 2)
+    match field {
+        Field::Origin => at + program::ORIGIN,
+        Field::Id | Field::OptId => at + ID,
+        Field::Type => at + TYPE,
+        Field::U64 => at + 8,
+        Field::U32 => at + 4,
+        Field::Flag | Field::Operator | Field::Context => at + 2,
+        Field::Counted(entry) => at + COUNT + entry.size() * read(s, at, COUNT),
+        Field::Listed(_) => stop,
+    }
 }
 
-// Where the children of a record start: at its stop, if its row has none. The others have one of five lists of fields.
-pub fn body_of(s: &[u8], at: usize, stop: usize, kind: usize) -> usize
-    requires { Standing s.now at stop kind }
+// The kind of a record.
+pub(crate) fn kind_of(s: &[u8], at: usize, stop: usize) -> Kind
+    requires { Standing s.now at stop (record_kind s.now at) }
+    ensures { number_of result ≡ record_kind s.now at }
+{
+    match Kind::try_from(read_u16(s, at + KIND)) {
+        Ok(kind) => kind,
+        Err(_) => unreachable!(),
+    }
+}
+
+// Where the children of a record start.
+pub(crate) fn body_of(s: &[u8], at: usize, stop: usize, kind: Kind) -> usize
+    requires { Standing s.now at stop (number_of kind) }
     ensures { result ≡ body_of s.now at }
 {
-    let row = row_of(kind);
-    if row / CHILDREN == 0 {
-        return stop;
+    let mut place = at + HEAD;
+    for &field in row_of(kind).fields {
+        place = field_end(s, place, stop, field);
     }
-    match row / DIGIT % FIXED {
-        0x1 => at + contract::AFTER_NAME, // a name or an id
-        0x7 => at + contract::AFTER_NAME, // an operator
-        0x9621 => past_list(s, at + contract::PARAM_COUNT, contract::PARAM), // function: n, return type, is_pub, parameters
-        0xba311 => {
-            let locals = past_list(s, at + program::PARAM_COUNT, program::PARAM);
-            past_list(s, locals, TYPE) // function: id, n, return type, parameters, locals
-        }
-        _ => at + HEAD, // none
-    }
+    place
 }
 
-// How many records stand from `at` to `end`.
+// How many records stand from `at` to `end`. An iterator over them would have to know that they passed, and that is a proof tree and no
+// proposition: no ghost field holds it.
 pub fn count(s: &[u8], at: usize, end: usize) -> usize
     requires { Passed s.now at end × (end ≤ length s.now) }
     ensures { result ≡ count_trees (read_records s.now at end) }
@@ -46,7 +62,7 @@ pub fn count(s: &[u8], at: usize, end: usize) -> usize
     let mut place = at;
     let mut n: usize = 0;
     while place < end {
-        place += read(s, place, 4);
+        place += read(s, place, LENGTH_BYTES);
         n += 1;
     }
     n

@@ -1,130 +1,119 @@
 // Refusals 3 and 40: the lowest place at which a record should start, or surplus begins, and none starts.
-ghost use Rattle.std.specs.Prelude.{◌≡◌, true, ◌≤◌, ◌<◌, length};
-ghost use Rattle.definitions.specs.Records.{Bad, may_end, check_records};
-ghost use Rattle.sheet.specs.Codes.{pattern_of, coded, Leaves, fitting_kind};
-ghost use Rattle.sheet.specs.Forms.{form_of, fault_of};
+ghost use Rattle.std.specs.Prelude.{◌≡◌, ◌≤◌, ◌<◌, length, IfErr};
+ghost use Rattle.definitions.specs.Records.{may_end, after, check_records};
+ghost use Rattle.definitions.specs.Records as records;
+ghost use Rattle.sheet.specs.Forms.{form_of};
+ghost use Rattle.sheet.specs.Tables.{class_of, pattern_of, next_of, row_found, row_at, start_of};
 
-use crate::Form;
-use crate::fixed_fields::past_fixed;
-use crate::tables::{CHILD, CHILDREN, DIGIT, FIXED, row_of};
-use format::{HEAD, KIND};
-use reader::read;
+use crate::Malformed;
+use crate::fixed_fields::past_fields;
+use crate::tables::{Child, Class, Often, Row, row_of};
+use format::kinds::Kind;
+use format::{HEAD, KIND, LENGTH_BYTES};
+use reader::{read, read_u16};
 
-// No pattern: what is left of one that does not allow a record. As a pattern it would ask for a record of class 0, which none has.
-const REFUSED: usize = 0x10;
-
-// How often a child may come: one, or any number. (2: perhaps one.)
-const ONE: usize = 1;
-
-const MANY: usize = 3;
-
-// The kind of the record at a place, if its length fits what is left of its parent; else 0, which is no kind.
-fn fitting_kind(s: &[u8], at: usize, end: usize) -> usize
-    requires { (at ≤ end) × (end ≤ length s.now) }
-    ensures { result ≡ fitting_kind s.now at end }
-{
-    let room = end - at;
-    if room < HEAD {
-        return 0;
-    }
-    let length = read(s, at, 4);
-    if length < HEAD {
-        return 0;
-    }
-    if room < length {
-        return 0;
-    }
-    read(s, at + KIND, 2)
+// A record that may stand where it starts: where its children start and it stops, what children it has, and what may come after it.
+#[derive(Clone, Copy)]
+pub(crate) struct Start<'a> {
+    body: usize,
+    stop: usize,
+    children: &'static [Child],
+    rest: &'a [Child],
 }
 
-// What a pattern leaves after a record of a class, or REFUSED.
-fn after(pattern: usize, class: usize) -> usize
-    requires { (coded pattern ≡ true) × (class ≤ 14) }
-    ensures { Leaves pattern class result }
+// What a pattern leaves after a record of a class, if it allows one.
+fn after<'a>(pattern: &'a [Child], class: Class) -> Option<&'a [Child]>
+    ensures { next_of result ≡ after (pattern_of pattern.now) (class_of class) }
 {
     let mut left = pattern;
-    while left != 0 {
-        let child = left % CHILD;
-        let often = child / DIGIT;
-        if child % DIGIT == class {
-            if often == MANY {
-                return left;
-            }
-            return left / CHILD;
+    while let [child, rest @ ..] = left {
+        if child.class == class {
+            return Some(if child.often == Often::Any {
+                left
+            } else {
+                rest
+            });
         }
-        if often == ONE {
-            return REFUSED;
+        if child.often == Often::Once {
+            return None;
         }
-        left = left / CHILD;
+        left = rest;
     }
-    REFUSED
+    None
 }
 
 // Whether a pattern allows the end.
-fn may_end(pattern: usize) -> bool
-    requires { coded pattern ≡ true }
-    ensures { result ≡ may_end (pattern_of pattern) }
+fn may_end(pattern: &[Child]) -> bool
+    ensures { result ≡ may_end (pattern_of pattern.now) }
 {
-    let mut left = pattern;
-    while left != 0 {
-        if left % CHILD / DIGIT == ONE {
-            return false;
-        }
-        left = left / CHILD;
-    }
-    true
+    pattern.iter().all(|child| child.often != Often::Once)
 }
 
-// A fault as a number, and none as 0: a level of `records` then takes less stack than one that gives a `Form`.
-fn fault_at(place: usize) -> usize
-    requires { place < 18446744073709551615 }
-    ensures { fault_of result ≡ Bad place }
+// The row of the record at a place, if its length fits what is left of its parent.
+#[tactic(auto, using(crate::proofs::Rows::unknown), unfolding(crate::specs::Tables::row_at))]
+fn row_at(s: &[u8], at: usize, end: usize) -> Option<&'static Row>
+    requires { (at ≤ end) × (end ≤ length s.now) }
+    ensures { row_found result ≡ row_at s.now at end }
 {
-    place + 1
+    let room = end - at;
+    if room < HEAD {
+        return None;
+    }
+    let length = read(s, at, LENGTH_BYTES);
+    if length < HEAD {
+        return None;
+    }
+    if room < length {
+        return None;
+    }
+    let kind = Kind::try_from(read_u16(s, at + KIND)).ok()?;
+    Some(row_of(kind))
 }
 
-// What such a number says.
-pub(crate) fn form(fault: usize) -> Form
-    ensures { form_of result ≡ fault_of fault }
+// The record that starts at a place where such a pattern is left.
+fn start_at<'a>(
+    s: &[u8],
+    at: usize,
+    end: usize,
+    pattern: &'a [Child],
+) -> Result<Start<'a>, Malformed>
+    requires { (at < end) × (end ≤ length s.now) }
+    ensures is { start_of result ≡ records.start_at s.now at end (pattern_of pattern.now) }
+    ensures place { IfErr result (λ fault. fault.0 ≡ at) }
 {
-    if fault == 0 {
-        return Form::Good;
-    }
-    Form::Bad(fault - 1)
+    let row = row_at(s, at, end).ok_or(Malformed(at))?;
+    let rest = after(pattern, row.class).ok_or(Malformed(at))?; // no record that may stand here
+    let stop = at + read(s, at, LENGTH_BYTES);
+    let body = past_fields(s, at + HEAD, stop, row.fields).ok_or(Malformed(at))?; // a fault in its own fields
+    Ok(Start {
+        body,
+        stop,
+        children: row.children,
+        rest,
+    })
 }
 
 // The records from `at` to `end` follow a pattern, each with its children: first those, then what stands after it. So the first
 // fault is the lowest. A record takes 6 bytes or more, so the bytes left fall with each call, to any depth.
-pub(crate) fn records(s: &[u8], at: usize, end: usize, pattern: usize) -> usize
-    requires { (at ≤ end) × ((end ≤ length s.now) × (coded pattern ≡ true)) }
-    ensures { fault_of result ≡ check_records s.now at end (pattern_of pattern) }
+pub(crate) fn records(s: &[u8], at: usize, end: usize, pattern: &[Child]) -> Result<(), Malformed>
+    requires { (at ≤ end) × (end ≤ length s.now) }
+    ensures { form_of result ≡ check_records s.now at end (pattern_of pattern.now) }
 {
     let mut place = at;
     let mut left = pattern;
     while place < end {
-        let row = row_of(fitting_kind(s, place, end));
-        let class = row % DIGIT;
-        let fixed = row / DIGIT % FIXED;
-        let children = row / CHILDREN;
-        let next = after(left, class);
-        if next == REFUSED {
-            return fault_at(place); // no record that may stand here
+        let next = start_at(s, place, end, left)?;
+        if next.body < next.stop {
+            records(s, next.body, next.stop, next.children)?;
+        } else if !may_end(next.children) {
+            return Err(Malformed(next.body)); // a child is missing
         }
-        let stop = place + read(s, place, 4);
-        let body = past_fixed(s, place + HEAD, stop, class, fixed);
-        if body == 0 {
-            return fault_at(place); // a fault in its own fields
-        }
-        if body < stop {
-            let fault = records(s, body, stop, children);
-            if fault != 0 {
-                return fault;
-            }
-        } else if !may_end(children) {
-            return fault_at(body); // a child is missing
-        }
-        place = stop;
-        left = next;
+        place = next.stop;
+        left = next.rest;
     }
-    if may_end(left) { 0 } else { fault_at(place) }
+    if may_end(left) {
+        Ok(())
+    } else {
+        Err(Malformed(place))
+    }
 }

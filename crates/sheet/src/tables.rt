@@ -1,91 +1,500 @@
-// A row for each record kind (document 01, "Contract sheet" and "Program sheet"), in hexadecimal digits. From the right:
-//
-// 1 digit, the class: 1 contract, 2 storage, 3 struct, 4 function, 5 block, 6 field of a struct literal, 7 statement,
-//   8 expression; 9 program, a function, b function's name, c basic block, d instruction, e terminator.
-// 5 digits, the fixed fields, the first field rightmost; of an instruction or terminator those after its origin (`fixed_fields::before_own`):
-//   1 a name or an id        5 four bytes          9 a count, then (name, type name) so often
-//   2 an id, 65,535: absent  6 0 or 1              a a count, then (value, type) so often
-//   3 a type                 7 operator, 0 to 9    b a count, then a type so often
-//   4 eight bytes            8 context, 0 to 2     c (name, type name) to the record's end     d ids to the record's end
-// 2 digits for each child, the first rightmost: 1 one, 2 perhaps one, 3 any number; then its class.
-ghost use Rattle.sheet.specs.Codes.{RowIs};
+// A row for each record kind (document 01, "Contract sheet" and "Program sheet").
+ghost use Rattle.std.specs.Prelude.{◌≡◌};
+ghost use Rattle.definitions.specs.Grammar.{rows};
+ghost use Rattle.definitions.specs.Records.{row_in};
+ghost use Rattle.format.specs.Kinds.{number_of};
+ghost use Rattle.sheet.specs.Tables.{row_of};
 
-use format::kinds;
+use format::kinds::{Expr, InBlock, Instruction, Item, Kind, Stmt, Terminator};
 
-// One more than a digit, the two digits of a child, and the five of the fixed fields hold; and what the children are multiplied by.
-pub(crate) const DIGIT: usize = 0x10;
+// What a record is, to the record around it.
+#[derive(Clone, Copy, Debug, PartialEq, Eq)]
+pub(crate) enum Class {
+    Contract,
+    Storage,
+    Struct,
+    Function,
+    Block,
+    FieldInit,
+    Stmt,
+    Expr,
+    Program,
+    IrFunction,
+    FunctionName,
+    BasicBlock,
+    Instruction,
+    Terminator,
+}
 
-pub(crate) const CHILD: usize = 0x100;
+#[derive(Clone, Copy, Debug, PartialEq, Eq)]
+pub(crate) enum Often {
+    Once,
+    AtMostOnce,
+    Any,
+}
 
-pub(crate) const FIXED: usize = 0x100000;
+// What may come next among a record's children.
+#[derive(Clone, Copy, Debug, PartialEq, Eq)]
+pub(crate) struct Child {
+    pub(crate) class: Class,
+    pub(crate) often: Often,
+}
 
-pub(crate) const CHILDREN: usize = 0x1000000;
+#[derive(Clone, Copy, Debug, PartialEq, Eq)]
+pub(crate) enum Entry {
+    Id,
+    Type,
+    ValueAndType,
+    NameAndType,
+}
+
+// A field. The entries of a list are counted before the first, or go on to the record's end.
+#[derive(Clone, Copy, Debug, PartialEq, Eq)]
+pub(crate) enum Field {
+    Origin, // what stands before the own fields of an instruction or terminator
+    Id, // of anything, or a name
+    OptId,
+    Type,
+    U64,
+    U32,
+    Flag,
+    Operator,
+    Context,
+    Counted(Entry),
+    Listed(Entry),
+}
+
+// A record's class, its fixed fields, and its children in order.
+#[derive(Clone, Copy, Debug)]
+pub(crate) struct Row {
+    pub(crate) class: Class,
+    pub(crate) fields: &'static [Field],
+    pub(crate) children: &'static [Child],
+}
+
+const EXPR: Child = Child {
+    class: Class::Expr,
+    often: Often::Once,
+};
+
+const OPT_EXPR: Child = Child {
+    class: Class::Expr,
+    often: Often::AtMostOnce,
+};
+
+const EXPRS: Child = Child {
+    class: Class::Expr,
+    often: Often::Any,
+};
+
+const STMTS: Child = Child {
+    class: Class::Stmt,
+    often: Often::Any,
+};
+
+const BLOCK: Child = Child {
+    class: Class::Block,
+    often: Often::Once,
+};
+
+const OPT_BLOCK: Child = Child {
+    class: Class::Block,
+    often: Often::AtMostOnce,
+};
+
+const FIELD_INITS: Child = Child {
+    class: Class::FieldInit,
+    often: Often::Any,
+};
 
 // The patterns of the sheets: one contract, one program.
-pub(crate) const ONE_CONTRACT: usize = 0x11;
+pub(crate) const ONE_CONTRACT: &[Child] = &[Child {
+    class: Class::Contract,
+    often: Often::Once,
+}];
 
-pub(crate) const ONE_PROGRAM: usize = 0x19;
+pub(crate) const ONE_PROGRAM: &[Child] = &[Child {
+    class: Class::Program,
+    often: Often::Once,
+}];
 
-// The row of a kind, and 0 for a number that is no kind.
-pub(crate) fn row_of(kind: usize) -> usize
-    ensures { RowIs kind result }
+// Contract sheet.
+static CONTRACT: Row = Row {
+    class: Class::Contract,
+    fields: &[Field::Id],
+    children: &[
+        Child {
+            class: Class::Storage,
+            often: Often::Any,
+        },
+        Child {
+            class: Class::Struct,
+            often: Often::Any,
+        },
+        Child {
+            class: Class::Function,
+            often: Often::Any,
+        },
+    ],
+};
+
+static STORAGE: Row = Row {
+    class: Class::Storage,
+    fields: &[Field::Id, Field::Id],
+    children: &[],
+};
+
+static STRUCT: Row = Row {
+    class: Class::Struct,
+    fields: &[Field::Id, Field::Listed(Entry::NameAndType)],
+    children: &[],
+};
+
+// Its name, return type, whether it is public, and its parameters.
+static FUNCTION: Row = Row {
+    class: Class::Function,
+    fields: &[
+        Field::Id,
+        Field::OptId,
+        Field::Flag,
+        Field::Counted(Entry::NameAndType),
+    ],
+    children: &[STMTS],
+};
+
+static BLOCK_OF_STMTS: Row = Row {
+    class: Class::Block,
+    fields: &[],
+    children: &[STMTS],
+};
+
+static FIELD_INIT: Row = Row {
+    class: Class::FieldInit,
+    fields: &[Field::Id],
+    children: &[EXPR],
+};
+
+static NAME_AND_EXPR: Row = Row {
+    class: Class::Stmt,
+    fields: &[Field::Id],
+    children: &[EXPR],
+};
+
+static ONE_EXPR: Row = Row {
+    class: Class::Stmt,
+    fields: &[],
+    children: &[EXPR],
+};
+
+static MAPPING_WRITE: Row = Row {
+    class: Class::Stmt,
+    fields: &[Field::Id],
+    children: &[EXPR, EXPR],
+};
+
+static IF: Row = Row {
+    class: Class::Stmt,
+    fields: &[],
+    children: &[EXPR, BLOCK, OPT_BLOCK],
+};
+
+static WHILE: Row = Row {
+    class: Class::Stmt,
+    fields: &[],
+    children: &[EXPR, BLOCK],
+};
+
+static FOR: Row = Row {
+    class: Class::Stmt,
+    fields: &[Field::Id],
+    children: &[EXPR, EXPR, BLOCK],
+};
+
+static RETURN_STMT: Row = Row {
+    class: Class::Stmt,
+    fields: &[],
+    children: &[OPT_EXPR],
+};
+
+static EMIT_STMT: Row = Row {
+    class: Class::Stmt,
+    fields: &[Field::Id],
+    children: &[EXPRS],
+};
+
+static INT: Row = Row {
+    class: Class::Expr,
+    fields: &[Field::U64],
+    children: &[],
+};
+
+static NAME: Row = Row {
+    class: Class::Expr,
+    fields: &[Field::Id],
+    children: &[],
+};
+
+static NAME_OF_EXPR: Row = Row {
+    class: Class::Expr,
+    fields: &[Field::Id],
+    children: &[EXPR],
+};
+
+static STRUCT_LITERAL: Row = Row {
+    class: Class::Expr,
+    fields: &[Field::Id],
+    children: &[FIELD_INITS],
+};
+
+static BINARY: Row = Row {
+    class: Class::Expr,
+    fields: &[Field::Operator],
+    children: &[EXPR, EXPR],
+};
+
+static CALL_EXPR: Row = Row {
+    class: Class::Expr,
+    fields: &[Field::Id],
+    children: &[EXPRS],
+};
+
+// Program sheet.
+static PROGRAM: Row = Row {
+    class: Class::Program,
+    fields: &[],
+    children: &[
+        Child {
+            class: Class::IrFunction,
+            often: Often::Any,
+        },
+        Child {
+            class: Class::FunctionName,
+            often: Often::Any,
+        },
+    ],
+};
+
+// Its id, name, return type, parameters and locals.
+static IR_FUNCTION: Row = Row {
+    class: Class::IrFunction,
+    fields: &[
+        Field::Id,
+        Field::Id,
+        Field::Type,
+        Field::Counted(Entry::ValueAndType),
+        Field::Counted(Entry::Type),
+    ],
+    children: &[Child {
+        class: Class::BasicBlock,
+        often: Often::Any,
+    }],
+};
+
+static FUNCTION_NAME: Row = Row {
+    class: Class::FunctionName,
+    fields: &[Field::Id, Field::Id],
+    children: &[],
+};
+
+static BASIC_BLOCK: Row = Row {
+    class: Class::BasicBlock,
+    fields: &[Field::Id],
+    children: &[
+        Child {
+            class: Class::Instruction,
+            often: Often::Any,
+        },
+        Child {
+            class: Class::Terminator,
+            often: Often::AtMostOnce,
+        },
+    ],
+};
+
+// Instructions: the result, then their own fields.
+static CONST: Row = Row {
+    class: Class::Instruction,
+    fields: &[Field::Origin, Field::OptId, Field::Type, Field::U64],
+    children: &[],
+};
+
+static BINARY_INSTRUCTION: Row = Row {
+    class: Class::Instruction,
+    fields: &[
+        Field::Origin,
+        Field::OptId,
+        Field::Type,
+        Field::Id,
+        Field::Id,
+    ],
+    children: &[],
+};
+
+static LOAD: Row = Row {
+    class: Class::Instruction,
+    fields: &[
+        Field::Origin,
+        Field::OptId,
+        Field::Type,
+        Field::Id,
+        Field::U64,
+    ],
+    children: &[],
+};
+
+static STORE: Row = Row {
+    class: Class::Instruction,
+    fields: &[
+        Field::Origin,
+        Field::OptId,
+        Field::Id,
+        Field::U64,
+        Field::Id,
+    ],
+    children: &[],
+};
+
+static STATE_READ: Row = Row {
+    class: Class::Instruction,
+    fields: &[Field::Origin, Field::OptId, Field::Type, Field::U32],
+    children: &[],
+};
+
+static STATE_WRITE: Row = Row {
+    class: Class::Instruction,
+    fields: &[Field::Origin, Field::OptId, Field::U32, Field::Id],
+    children: &[],
+};
+
+static READ_LOCAL: Row = Row {
+    class: Class::Instruction,
+    fields: &[Field::Origin, Field::OptId, Field::Id, Field::Type],
+    children: &[],
+};
+
+static TWO_IDS: Row = Row {
+    class: Class::Instruction,
+    fields: &[Field::Origin, Field::OptId, Field::Id, Field::Id],
+    children: &[],
+};
+
+static CALL: Row = Row {
+    class: Class::Instruction,
+    fields: &[
+        Field::Origin,
+        Field::OptId,
+        Field::Id,
+        Field::Type,
+        Field::Listed(Entry::Id),
+    ],
+    children: &[],
+};
+
+static ASSERT: Row = Row {
+    class: Class::Instruction,
+    fields: &[Field::Origin, Field::OptId, Field::Id],
+    children: &[],
+};
+
+static EMIT: Row = Row {
+    class: Class::Instruction,
+    fields: &[
+        Field::Origin,
+        Field::OptId,
+        Field::Id,
+        Field::Listed(Entry::Id),
+    ],
+    children: &[],
+};
+
+static CONTEXT_READ: Row = Row {
+    class: Class::Instruction,
+    fields: &[Field::Origin, Field::OptId, Field::Context],
+    children: &[],
+};
+
+static JUMP: Row = Row {
+    class: Class::Terminator,
+    fields: &[Field::Origin, Field::Id],
+    children: &[],
+};
+
+static BRANCH: Row = Row {
+    class: Class::Terminator,
+    fields: &[Field::Origin, Field::Id, Field::Id, Field::Id],
+    children: &[],
+};
+
+static RETURN: Row = Row {
+    class: Class::Terminator,
+    fields: &[Field::Origin, Field::OptId],
+    children: &[],
+};
+
+static UNREACHABLE: Row = Row {
+    class: Class::Terminator,
+    fields: &[Field::Origin],
+    children: &[],
+};
+
+#[tactic(auto, unfolding(definitions::specs::Grammar::rows, definitions::specs::Records::row_in))]
+pub(crate) fn row_of(kind: Kind) -> &'static Row
+    ensures { row_of result.now ≡ row_in (number_of kind) rows }
 {
     match kind {
-        kinds::CONTRACT => 0x343332_00001_1, // contract: n, 2*, 3*, 4*
-        kinds::STORAGE => 0x000000_00011_2, // storage: n, type name
-        kinds::STRUCT => 0x000000_000c1_3, // struct: n, then (field n, type name)*
-        kinds::FUNCTION => 0x000037_09621_4, // function: n, return type, is_pub, parameters, statements*
-        kinds::BLOCK => 0x000037_00000_5, // block: statements*
-        kinds::FIELD_INIT => 0x000018_00001_6, // field of a struct literal: n e
-        kinds::LET => 0x000018_00001_7, // Let n e
-        kinds::CONSTRAIN => 0x000018_00000_7, // Constrain e
-        kinds::ASSIGN => 0x000018_00001_7, // Assign n e
-        kinds::STORAGE_WRITE => 0x000018_00001_7, // StorageWrite n e
-        kinds::MAPPING_WRITE => 0x001818_00001_7, // MappingWrite n e e
-        kinds::IF => 0x251518_00000_7, // If e, 5, perhaps 5
-        kinds::WHILE => 0x001518_00000_7, // While e 5
-        kinds::FOR => 0x151818_00001_7, // For n e e 5
-        kinds::RETURN_STMT => 0x000028_00000_7, // Return, perhaps e
-        kinds::EMIT_STMT => 0x000038_00001_7, // Emit n e*
-        kinds::EXPR_STMT => 0x000018_00000_7, // Expr e
-        kinds::INT => 0x000000_00004_8, // Int u64
-        kinds::IDENT => 0x000000_00001_8, // Ident n
-        kinds::STORAGE_READ => 0x000000_00001_8, // StorageRead n
-        kinds::MAPPING_READ => 0x000018_00001_8, // MappingRead n e
-        kinds::FIELD_ACCESS => 0x000018_00001_8, // FieldAccess field n, e
-        kinds::STRUCT_LITERAL => 0x000036_00001_8, // StructLiteral n 6*
-        kinds::BINARY => 0x001818_00007_8, // Binary op e e
-        kinds::CALL_EXPR => 0x000038_00001_8, // Call n e*
-        kinds::PROGRAM => 0x003b3a_00000_9, // program: 51*, 52*
-        kinds::IR_FUNCTION => 0x00003c_ba311_a, // function: id, n, return type, parameters, locals, 53*
-        kinds::FUNCTION_NAME => 0x000000_00011_b, // function's name: n, function id
-        kinds::BASIC_BLOCK => 0x002e3d_00001_c, // basic block: id, instructions*, perhaps a terminator
-        kinds::CONST => 0x000000_00432_d, // Const: result, type, value
-        kinds::ADD => 0x000000_01132_d, // Add: result, type, left, right
-        kinds::SUB => 0x000000_01132_d, // Sub
-        kinds::MUL => 0x000000_01132_d, // Mul
-        kinds::DIV => 0x000000_01132_d, // Div
-        kinds::IR_EQ => 0x000000_01132_d, // IrEq
-        kinds::IR_NE => 0x000000_01132_d, // IrNe
-        kinds::LT => 0x000000_01132_d, // Lt
-        kinds::LE => 0x000000_01132_d, // Le
-        kinds::GT => 0x000000_01132_d, // Gt
-        kinds::GE => 0x000000_01132_d, // Ge
-        kinds::LOAD => 0x000000_04132_d, // Load: result, type, base, offset
-        kinds::STORE => 0x000000_01412_d, // Store: result, base, offset, value
-        kinds::STATE_READ => 0x000000_00532_d, // StateRead: result, type, slot
-        kinds::STATE_WRITE => 0x000000_00152_d, // StateWrite: result, slot, value
-        kinds::READ_LOCAL => 0x000000_00312_d, // ReadLocal: result, local, type
-        kinds::WRITE_LOCAL => 0x000000_00112_d, // WriteLocal: result, local, value
-        kinds::CALL => 0x000000_0d312_d, // Call: result, function, type, arguments
-        kinds::ASSERT => 0x000000_00012_d, // Assert: result, condition
-        kinds::POSEIDON => 0x000000_00112_d, // Poseidon: result, left, right
-        kinds::EMIT => 0x000000_00d12_d, // Emit: result, n, arguments
-        kinds::CONTEXT_READ => 0x000000_00082_d, // ContextRead: result, context
-        kinds::JUMP => 0x000000_00001_e, // Jump: target
-        kinds::BRANCH => 0x000000_00111_e, // Branch: condition, then, else
-        kinds::RETURN => 0x000000_00002_e, // Return: value or 65,535
-        kinds::UNREACHABLE => 0x000000_00000_e, // Unreachable
-        _ => 0,
+        Kind::Contract => &CONTRACT,
+        Kind::Item(item) => match item {
+            Item::Storage => &STORAGE,
+            Item::Struct => &STRUCT,
+            Item::Function => &FUNCTION,
+        },
+        Kind::Block => &BLOCK_OF_STMTS,
+        Kind::FieldInit => &FIELD_INIT,
+        Kind::Stmt(stmt) => match stmt {
+            Stmt::Let | Stmt::Assign | Stmt::StorageWrite => &NAME_AND_EXPR,
+            Stmt::Constrain | Stmt::Expr => &ONE_EXPR,
+            Stmt::MappingWrite => &MAPPING_WRITE,
+            Stmt::If => &IF,
+            Stmt::While => &WHILE,
+            Stmt::For => &FOR,
+            Stmt::Return => &RETURN_STMT,
+            Stmt::Emit => &EMIT_STMT,
+        },
+        Kind::Expr(expr) => match expr {
+            Expr::Int => &INT,
+            Expr::Ident | Expr::StorageRead => &NAME,
+            Expr::MappingRead | Expr::FieldAccess => &NAME_OF_EXPR,
+            Expr::StructLiteral => &STRUCT_LITERAL,
+            Expr::Binary => &BINARY,
+            Expr::Call => &CALL_EXPR,
+        },
+        Kind::Program => &PROGRAM,
+        Kind::IrFunction => &IR_FUNCTION,
+        Kind::FunctionName => &FUNCTION_NAME,
+        Kind::BasicBlock => &BASIC_BLOCK,
+        Kind::InBlock(InBlock::Instruction(instruction)) => match instruction {
+            Instruction::Const => &CONST,
+            Instruction::Add | Instruction::Sub | Instruction::Mul | Instruction::Div =>
+                &BINARY_INSTRUCTION,
+            Instruction::Eq | Instruction::Ne => &BINARY_INSTRUCTION,
+            Instruction::Lt | Instruction::Le | Instruction::Gt | Instruction::Ge =>
+                &BINARY_INSTRUCTION,
+            Instruction::Load => &LOAD,
+            Instruction::Store => &STORE,
+            Instruction::StateRead => &STATE_READ,
+            Instruction::StateWrite => &STATE_WRITE,
+            Instruction::ReadLocal => &READ_LOCAL,
+            Instruction::WriteLocal | Instruction::Poseidon => &TWO_IDS,
+            Instruction::Call => &CALL,
+            Instruction::Assert => &ASSERT,
+            Instruction::Emit => &EMIT,
+            Instruction::ContextRead => &CONTEXT_READ,
+        },
+        Kind::InBlock(InBlock::Terminator(terminator)) => match terminator {
+            Terminator::Jump => &JUMP,
+            Terminator::Branch => &BRANCH,
+            Terminator::Return => &RETURN,
+            Terminator::Unreachable => &UNREACHABLE,
+        },
     }
 }

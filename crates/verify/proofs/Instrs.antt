@@ -1,184 +1,179 @@
--- What the checks of an instruction's parts give for the whole instruction, kind by kind; the same for terminators. Assumes nothing.
-use mathlib.Core.Path.{◌≡◌, refl}
-use mathlib.Core.Bool.{Bool, true, false}
-use mathlib.Core.List.{List, [], ◌∷◌}
-use Prim.Native.Nat.{ℕ, ◌+◌, ◌-◌, ◌/◌, ◌≤◌, ◌<◌}
-use native.Mathlib.Omega.{arith}
-use lib.Dec.{leb, eqb}
-use lib.ListN.{length}
-use borrow.Author.Tests.{leb-true, ne_eqb, le-leb, lt-leb}
-use Rattle.definitions.specs.Result.{err, ok}
-use Rattle.definitions.specs.Fields.{le}
-use Rattle.definitions.specs.Ir.{Instruction}
-use Rattle.definitions.specs.Records.{pick, read_items, read_item, size_of}
-use Rattle.definitions.specs.ProgramSheet.{binary_of}
-use Rattle.definitions.specs.Verify.{VerifyError, Defined, check_value_ref, check_value_refs, verify_instr, verify_terminator}
-use Rattle.program_nodes.specs.Offsets.{fields_at, own_at, call_args_at, event_args_at}
-use Rattle.program_nodes.specs.Positions.{ids_here, instr_here, size_here, term_here, term_size, InstrPlace, TermPlace}
-use Rattle.program_nodes.specs.declared.Function.{Function}
-use Rattle.verify_state.specs.Promises.{Outcome, Says, Checks}
-use Rattle.verify_refs.specs.Promises.{function_check, local_check, target_check, instr_check, binary_check, BinaryPlace, term_check, return_here, branch_here}
-use Rattle.verify_state.proofs.Steps.{says_all, first_failed, then_rest}
-use Rattle.verify_refs.proofs.Values.{one_value}
+-- What the checks of their parts say of an instruction and of a terminator. Assumes nothing.
+use mathlib.Core.Path.{◌≡◌, refl, sym, ◌∙◌}
+use mathlib.Core.List.{[], ◌∷◌}
+use Prim.Native.Nat.{ℕ}
+use Rattle.std.specs.Prelude.{Option, Ok, Err}
+use Rattle.definitions.specs.Result.{err, ok, ◌>>=◌, ◌>>◌, check, Done}
+use Rattle.definitions.specs.Ir.{eq_type}
+use Rattle.definitions.specs.Ir as ir
+use Rattle.definitions.specs.Verify.{VerifyError, Checked, Defined, check_value_ref, check_value_refs, verify_instr, verify_terminator}
+use Rattle.format.specs.declared.kinds.Instruction.{Instruction as Kind}
+use Rattle.format.specs.declared.program.ContextKind.{ContextKind}
+use Rattle.ir.specs.declared.IrType.{IrType}
+use Rattle.ir.specs.declared.Name.{Name}
+use Rattle.ir.specs.declared.ValueId.{ValueId}
+use Rattle.ir.specs.declared.LocalId.{LocalId}
+use Rattle.ir.specs.declared.BlockId.{BlockId}
+use Rattle.ir.specs.declared.FunctionId.{FunctionId}
+use Rattle.program_nodes.specs.Nodes.{ids_in, instr_is, term_is}
+use Rattle.program_nodes.specs.declared.program.Function.{Function}
+use Rattle.program_nodes.specs.declared.instr.Ids.{Ids}
+use Rattle.program_nodes.specs.declared.instr.Instruction.{Instruction}
+use Rattle.program_nodes.specs.declared.instr.Instruction.TheVariants as instr
+use Rattle.program_nodes.specs.declared.term.Terminator.{Terminator}
+use Rattle.program_nodes.specs.declared.term.Terminator.TheVariants as term
+use Rattle.verify_state.specs.Errors.{Outcome, error_of, named}
+use Rattle.verify_state.specs.Promises.{Says, Checks}
+use Rattle.verify_state.specs.declared.VerifyError.{VerifyError as Fault}
+use Rattle.verify_refs.specs.Promises.{Finds, function_check, local_check, target_check, operands_check, condition_check, return_check, instr_check, term_check}
+use Rattle.verify_state.proofs.Steps.{Leads, lead_over, lead_failed, lead_passed, says_all, first_failed, then_rest}
+use Rattle.verify_refs.proofs.Values.{value_failed, value_passed}
 
--- an instruction of kind K has n bytes of own fixed fields at least
-room : {kind stop : ℕ} (q K n : ℕ) → leb (own_at + n) (size_here K) ≡ true → q + size_here kind ≤ stop → kind ≡ K → q + (own_at + n) ≤ stop
-room {kind} {stop} q K n t h e = omega (arith, rw e at h, leb-true (own_at + n) (size_here K) t)
+-- ONE VALUE as a list of values
+only : {A : Type 0} (n : ℕ) (r : Checked A) → named n (r >> ok (tt {0})) ≡ named n r
+only n (err x) = refl
+only n (ok a) = refl
 
--- where they end, for the kinds with an arm of their own
-pub record Fixed (q stop kind : ℕ) : Type 0 where
-  pub load : kind ≡ 71 → q + (own_at + 14) ≤ stop
-  pub store : kind ≡ 72 → q + (own_at + 12) ≤ stop
-  pub state_write : kind ≡ 74 → q + (own_at + 6) ≤ stop
-  pub read_local : kind ≡ 75 → q + (own_at + 6) ≤ stop
-  pub write_local : kind ≡ 76 → q + (own_at + 4) ≤ stop
-  pub call : kind ≡ 77 → q + (own_at + 6) ≤ stop
-  pub assert : kind ≡ 78 → q + (own_at + 2) ≤ stop
-  pub poseidon : kind ≡ 79 → q + (own_at + 4) ≤ stop
-  pub emit : kind ≡ 80 → q + (own_at + 2) ≤ stop
+module _ {f : Function} (v : ℕ) where
+  as_list : {r : Outcome} → Checks f r (check_value_ref v) → Checks f r (check_value_refs (v ∷ []))
+  unfolding check_value_refs
+  as_list h = record { says = λ ds S. h.says ds S ∙ sym (only f.name.0 (check_value_ref v ds)) }
 
-pub fixed_fields : {kind stop : ℕ} (q : ℕ) → q + size_here kind ≤ stop → Fixed q stop kind
-unfolding size_here
-fixed_fields q h = record {
-  load = room q 71 14 refl h;
-  store = room q 72 12 refl h;
-  state_write = room q 74 6 refl h;
-  read_local = room q 75 6 refl h;
-  write_local = room q 76 4 refl h;
-  call = room q 77 6 refl h;
-  assert = room q 78 2 refl h;
-  poseidon = room q 79 4 refl h;
-  emit = room q 80 2 refl h;
-}
+  alone : {r : Outcome} → Checks f r (check_value_refs (v ∷ [])) → Checks f r (check_value_ref v)
+  unfolding check_value_refs
+  alone h = record { says = λ ds S. h.says ds S ∙ only f.name.0 (check_value_ref v ds) }
 
--- a binary instruction has room for its operands, and a type
-pub binary_place : {s : List ℕ} {q k : ℕ} → InstrPlace s q k → (k ≡ 60 → ⊥) → k ≤ 70 → BinaryPlace s q
-unfolding size_here
-binary_place {s} {q} {k} I h l = record { fits = rw (ne_eqb k 60 h, le-leb k 70 l) at I.fits; typed = rw (le-leb k 73 (omega arith)) at (I.typed (rw (le-leb k 71 (omega arith)))) }
+  pub use_failed : {x : Fault} → Finds f v (Err x) → Checks f (err (error_of x)) (check_value_refs (v ∷ []))
+  use_failed F = as_list (value_failed F)
 
--- AN INSTRUCTION at q that stops at `stop`
-pub record Here : Type 0 where
-  pub s : List ℕ
-  pub f : Function
-  pub q : ℕ
-  pub stop : ℕ
+  pub use_passed : {t : IrType} → Finds f v (Ok t) → Checks f (ok tt) (check_value_refs (v ∷ []))
+  use_passed F = as_list (value_passed F)
 
-module _ (h : Here) where
-  -- r is the answer to the record as an instruction of kind k
-  abbrev pub Gives : Outcome → ℕ → Type 0
-  Gives r k = Checks h.s h.f r (instr_check h.s h.f (instr_here k h.s h.q h.stop))
+-- AN INSTRUCTION i, which the code matched on
+abbrev pub Gives : Function → Instruction → Outcome → Type 0
+Gives f i r = Checks f r (instr_check f (instr_is i))
 
-  -- r is the answer to m ids, i bytes into the record
-  abbrev Values : Outcome → ℕ → ℕ → Type 0
-  Values r m i = Checks h.s h.f r (check_value_refs (ids_here m h.s (h.q + i)))
+module _ (f : Function) {i : Instruction} where
+  pub const : {t : IrType} {n : ℕ} → i ≡ instr.Const t n → Gives f i (ok tt)
+  unfolding verify_instr
+  const e = rw e (record { says = λ ds S. refl })
 
-  -- the id that stands i bytes into the record
-  abbrev id : ℕ → ℕ
-  id i = le 2 h.s (h.q + i)
+  pub state_read : {t : IrType} {n : ℕ} → i ≡ instr.StateRead t n → Gives f i (ok tt)
+  unfolding verify_instr
+  state_read e = rw e (record { says = λ ds S. refl })
 
-  pub const : Gives (ok tt) 60
-  unfolding instr_here verify_instr
-  const = record { says = λ ds S. refl }
+  pub context_read : {k : ContextKind} → i ≡ instr.ContextRead k → Gives f i (ok tt)
+  unfolding verify_instr
+  context_read e = rw e (record { says = λ ds S. refl })
 
   module _ {r : Outcome} where
-    pub binary : (k : ℕ) → (k ≡ 60 → ⊥) → k ≤ 70 → Checks h.s h.f r (binary_check h.s h.f h.q (binary_of k)) → Gives r k
-    unfolding instr_here
-    binary k n l e = rw (ne_eqb k 60 n, le-leb k 70 l) e
+    pub binary : {k : Kind} {t : IrType} {a b : ValueId} → i ≡ instr.Binary k t a b → Checks f r (operands_check t a.0 b.0) → Gives f i r
+    unfolding verify_instr operands_check
+    binary e h = rw e h
 
-    pub load : Values r 1 (own_at + 4) → Gives r 71
-    unfolding instr_here verify_instr ids_here read_items read_item
-    load e = e
+    pub load : {t : IrType} {b : ValueId} {n : ℕ} → i ≡ instr.Load t b n → Checks f r (check_value_refs (b.0 ∷ [])) → Gives f i r
+    unfolding verify_instr
+    load e h = rw e h
 
-    pub store : Values (ok tt) 1 own_at → Values r 1 (own_at + 10) → Gives r 72
-    unfolding instr_here verify_instr ids_here read_items read_item check_value_refs
-    store e v = then_rest (check_value_ref (id own_at)) (check_value_refs (id (own_at + 10) ∷ [])) (one_value (id own_at) e) v
+    pub state_write : {n : ℕ} {v : ValueId} → i ≡ instr.StateWrite n v → Checks f r (check_value_refs (v.0 ∷ [])) → Gives f i r
+    unfolding verify_instr
+    state_write e h = rw e h
 
-    pub state_write_lem : Values r 1 (own_at + 4) → Gives r 74
-    unfolding instr_here verify_instr ids_here read_items read_item
-    state_write_lem e = e
+    pub assert : {v : ValueId} → i ≡ instr.Assert v → Checks f r (check_value_refs (v.0 ∷ [])) → Gives f i r
+    unfolding verify_instr
+    assert e h = rw e h
 
-    pub read_local_lem : Says h.f r (local_check h.s h.f (id own_at)) → Gives r 75
-    unfolding instr_here verify_instr
-    read_local_lem e = says_all (local_check h.s h.f (id own_at)) e
+    pub emit : {n : Name} {vs : Ids} → i ≡ instr.Emit n vs → Checks f r (check_value_refs (ids_in vs)) → Gives f i r
+    unfolding verify_instr
+    emit e h = rw e h
 
-    pub write_local_lem : Says h.f (ok tt) (local_check h.s h.f (id own_at)) → Values r 1 (own_at + 2) → Gives r 76
-    unfolding instr_here verify_instr ids_here read_items read_item
-    write_local_lem e v = then_rest (λ (ds : Defined). local_check h.s h.f (id own_at)) (check_value_refs (id (own_at + 2) ∷ [])) (says_all (local_check h.s h.f (id own_at)) e) v
+    pub read_local : {l : LocalId} {t : IrType} → i ≡ instr.ReadLocal l t → Says f r (local_check f l.0) → Gives f i r
+    unfolding verify_instr
+    read_local {l} e h = rw e (says_all {f = f} (local_check f l.0) h)
 
-    pub call : Says h.f (ok tt) (function_check h.s (id own_at)) → Values r ((h.stop - (h.q + call_args_at)) / 2) call_args_at → Gives r 77
-    unfolding instr_here verify_instr
-    call e v = then_rest (λ (ds : Defined). function_check h.s (id own_at)) (check_value_refs (ids_here ((h.stop - (h.q + call_args_at)) / 2) h.s (h.q + call_args_at))) (says_all (function_check h.s (id own_at)) e) v
+    -- two parts
+    pub store : {a v : ValueId} {n : ℕ} → i ≡ instr.Store a n v → Checks f (ok tt) (check_value_refs (a.0 ∷ [])) → Checks f r (check_value_refs (v.0 ∷ [])) → Gives f i r
+    unfolding verify_instr check_value_refs
+    store {a} {v} e h g = rw e (then_rest (check_value_ref a.0) (check_value_refs (v.0 ∷ [])) (alone a.0 h) g)
 
-    pub assert : Values r 1 own_at → Gives r 78
-    unfolding instr_here verify_instr ids_here read_items read_item
-    assert e = e
+    pub poseidon : {a b : ValueId} → i ≡ instr.Poseidon a b → Checks f (ok tt) (check_value_refs (a.0 ∷ [])) → Checks f r (check_value_refs (b.0 ∷ [])) → Gives f i r
+    unfolding verify_instr check_value_refs
+    poseidon {a} {b} e h g = rw e (then_rest (check_value_ref a.0) (check_value_refs (b.0 ∷ [])) (alone a.0 h) g)
 
-    pub poseidon : Values r 2 own_at → Gives r 79
-    unfolding instr_here verify_instr ids_here read_items read_item size_of
-    poseidon e = let z : h.q + own_at + 2 ≡ h.q + (own_at + 2) = omega arith in rw z at e
+    pub write_local : {l : LocalId} {v : ValueId} → i ≡ instr.WriteLocal l v → Says f (ok tt) (local_check f l.0) → Checks f r (check_value_refs (v.0 ∷ [])) → Gives f i r
+    unfolding verify_instr
+    write_local {l} {v} e h g = rw e (then_rest (λ (ds : Defined). local_check f l.0) (check_value_refs (v.0 ∷ [])) (says_all {f = f} (local_check f l.0) h) g)
 
-    pub emit : Values r ((h.stop - (h.q + event_args_at)) / 2) event_args_at → Gives r 80
-    unfolding instr_here verify_instr
-    emit e = e
+    pub call : {g : FunctionId} {vs : Ids} {t : IrType} → i ≡ instr.Call g vs t → Says f (ok tt) (function_check f g.0) → Checks f r (check_value_refs (ids_in vs)) → Gives f i r
+    unfolding verify_instr
+    call {g} {vs} e h k = rw e (then_rest (λ (ds : Defined). function_check f g.0) (check_value_refs (ids_in vs)) (says_all {f = f} (function_check f g.0) h) k)
 
   -- the first of two parts failed
   module _ {x : ℕ × VerifyError} where
-    pub store_bad : Values (err x) 1 own_at → Gives (err x) 72
-    unfolding instr_here verify_instr ids_here read_items read_item check_value_refs
-    store_bad e = first_failed (check_value_ref (id own_at)) (check_value_refs (id (own_at + 10) ∷ [])) (one_value (id own_at) e)
+    pub store_failed : {a v : ValueId} {n : ℕ} → i ≡ instr.Store a n v → Checks f (err x) (check_value_refs (a.0 ∷ [])) → Gives f i (err x)
+    unfolding verify_instr check_value_refs
+    store_failed {a} {v} e h = rw e (first_failed (check_value_ref a.0) (check_value_refs (v.0 ∷ [])) (alone a.0 h))
 
-    pub write_local_bad : Says h.f (err x) (local_check h.s h.f (id own_at)) → Gives (err x) 76
-    unfolding instr_here verify_instr
-    write_local_bad e = first_failed (λ (ds : Defined). local_check h.s h.f (id own_at)) (check_value_refs (id (own_at + 2) ∷ [])) (says_all (local_check h.s h.f (id own_at)) e)
+    pub poseidon_failed : {a b : ValueId} → i ≡ instr.Poseidon a b → Checks f (err x) (check_value_refs (a.0 ∷ [])) → Gives f i (err x)
+    unfolding verify_instr check_value_refs
+    poseidon_failed {a} {b} e h = rw e (first_failed (check_value_ref a.0) (check_value_refs (b.0 ∷ [])) (alone a.0 h))
 
-    pub call_bad : Says h.f (err x) (function_check h.s (id own_at)) → Gives (err x) 77
-    unfolding instr_here verify_instr
-    call_bad e = first_failed (λ (ds : Defined). function_check h.s (id own_at)) (check_value_refs (ids_here ((h.stop - (h.q + call_args_at)) / 2) h.s (h.q + call_args_at))) (says_all (function_check h.s (id own_at)) e)
+    pub write_local_failed : {l : LocalId} {v : ValueId} → i ≡ instr.WriteLocal l v → Says f (err x) (local_check f l.0) → Gives f i (err x)
+    unfolding verify_instr
+    write_local_failed {l} {v} e h = rw e (first_failed (λ (ds : Defined). local_check f l.0) (check_value_refs (v.0 ∷ [])) (says_all {f = f} (local_check f l.0) h))
 
-  -- by the kind that the instruction has
-  pub by_kind : {k K : ℕ} {r : Outcome} → k ≡ K → Gives r K → Gives r k
-  by_kind e g = rw e g
+    pub call_failed : {g : FunctionId} {vs : Ids} {t : IrType} → i ≡ instr.Call g vs t → Says f (err x) (function_check f g.0) → Gives f i (err x)
+    unfolding verify_instr
+    call_failed {g} {vs} e h = rw e (first_failed (λ (ds : Defined). function_check f g.0) (check_value_refs (ids_in vs)) (says_all {f = f} (function_check f g.0) h))
 
-  -- the kinds that refer to nothing: each of the others is left out by a fact
-  abbrev Quiet : Instruction → Type 0
-  Quiet i = Checks h.s h.f (ok tt) (instr_check h.s h.f i)
+-- A BRANCH on v to b or e
+grouped : {A : Type 0} (n : ℕ) (r : Checked A) (k : A → Checked Done) (c : Checked Done) → named n ((r >>= k) >> c) ≡ named n (r >>= λ (a : A). k a >> c)
+grouped n (err x) k c = refl
+grouped n (ok a) k c = refl
 
-  skip : (k K : ℕ) (i j : Instruction) → (k ≡ K → ⊥) → Quiet j → Quiet (pick (eqb k K) i j)
-  skip k K i j n e = rw (ne_eqb k K n) e
+module _ (f : Function) (v b e : ℕ) where
+  whole_branch : Leads f (term_check f (ir.Terminator.Branch v b e)) (λ (ds : Defined). condition_check v ds >> (target_check f b >> target_check f e))
+  unfolding verify_terminator condition_check
+  whole_branch = record { same = λ ds S. grouped f.name.0 (check_value_ref v ds) (λ (t : ir.IrType). check (eq_type t ir.IrType.BoolT) (VerifyError.BranchConditionNotBool v t)) (target_check f b >> target_check f e) }
 
-  either : (b : Bool) (i j : Instruction) → Quiet i → Quiet j → Quiet (pick b i j)
-  either true i j e g = e
-  either false i j e g = g
+  value_fails : {x : ℕ × VerifyError} → Checks f (err x) (condition_check v) → Checks f (err x) (term_check f (ir.Terminator.Branch v b e))
+  value_fails h = lead_failed (condition_check v) (λ (ds : Defined). target_check f b >> target_check f e) whole_branch h
 
-  pub quiet : (k : ℕ) → 70 < k → (k ≡ 71 → ⊥) → (k ≡ 72 → ⊥) → (k ≡ 74 → ⊥) → (k ≡ 75 → ⊥) → (k ≡ 76 → ⊥) → (k ≡ 77 → ⊥) → (k ≡ 78 → ⊥) → (k ≡ 79 → ⊥) → (k ≡ 80 → ⊥) → Gives (ok tt) k
-  unfolding instr_here verify_instr
-  quiet k l h71 h72 h74 h75 h76 h77 h78 h79 h80 =
-      either (eqb k 60) _ _ (record { says = λ ds S. refl }) (rw (lt-leb k 70 l)
-      (skip k 71 _ _ h71 (skip k 72 _ _ h72 (either (eqb k 73) _ _ (record { says = λ ds S. refl }) (skip k 74 _ _ h74 (skip k 75 _ _ h75 (skip k 76 _ _ h76 (skip k 77 _ _ h77 (skip k 78 _ _ h78 (skip k 79 _ _ h79 (skip k 80 _ _ h80 (record { says = λ ds S. refl }))))))))))))
+  module _ (h : Checks f (ok tt) (condition_check v)) where
+    targets_left : Leads f (term_check f (ir.Terminator.Branch v b e)) (λ (ds : Defined). target_check f b >> target_check f e)
+    targets_left = lead_passed (condition_check v) (λ (ds : Defined). target_check f b >> target_check f e) whole_branch h
 
--- TERMINATORS
-module _ (s : List ℕ) (f : Function) (q : ℕ) where
-  abbrev pub Ends : Outcome → ℕ → Type 0
-  Ends r k = Checks s f r (term_check s f (term_here k s q))
+    then_fails : {x : ℕ × VerifyError} → Says f (err x) (target_check f b) → Checks f (err x) (term_check f (ir.Terminator.Branch v b e))
+    then_fails g = lead_failed (λ (ds : Defined). target_check f b) (λ (ds : Defined). target_check f e) targets_left (says_all {f = f} (target_check f b) g)
 
-  pub by_term : {k K : ℕ} {r : Outcome} → k ≡ K → Ends r K → Ends r k
-  by_term e g = rw e g
+    else_says : {r : Outcome} → Says f (ok tt) (target_check f b) → Says f r (target_check f e) → Checks f r (term_check f (ir.Terminator.Branch v b e))
+    else_says g k = lead_over (lead_passed (λ (ds : Defined). target_check f b) (λ (ds : Defined). target_check f e) targets_left (says_all {f = f} (target_check f b) g)) (says_all {f = f} (target_check f e) k)
 
-  pub jump : {r : Outcome} → Says f r (target_check s f (le 2 s (q + fields_at))) → Ends r 90
-  unfolding term_here verify_terminator
-  jump e = says_all (target_check s f (le 2 s (q + fields_at))) e
+-- A TERMINATOR i, which the code matched on
+abbrev pub Ends : Function → Terminator → Outcome → Type 0
+Ends f i r = Checks f r (term_check f (term_is i))
 
-  pub branch : {r : Outcome} → Checks s f r (term_check s f (branch_here s q)) → Ends r 91
-  unfolding term_here
-  branch e = e
+module _ (f : Function) {i : Terminator} where
+  pub unreachable : i ≡ term.Unreachable → Ends f i (ok tt)
+  unfolding verify_terminator
+  unreachable e = rw e (record { says = λ ds S. refl })
 
-  pub return : {r : Outcome} → Checks s f r (term_check s f (return_here s q)) → Ends r 92
-  unfolding term_here
-  return e = e
+  module _ {v : ValueId} {b e : BlockId} (z : i ≡ term.Branch v b e) where
+    pub condition_failed : {x : ℕ × VerifyError} → Checks f (err x) (condition_check v.0) → Ends f i (err x)
+    condition_failed h = rw z (value_fails f v.0 b.0 e.0 h)
 
-  pub unreachable : (k : ℕ) → (k ≡ 90 → ⊥) → (k ≡ 91 → ⊥) → (k ≡ 92 → ⊥) → Ends (ok tt) k
-  unfolding term_here verify_terminator
-  unreachable k h90 h91 h92 = rw (ne_eqb k 90 h90, ne_eqb k 91 h91, ne_eqb k 92 h92) (record { says = λ ds S. refl })
+    module _ (h : Checks f (ok tt) (condition_check v.0)) where
+      pub then_failed : {x : ℕ × VerifyError} → Says f (err x) (target_check f b.0) → Ends f i (err x)
+      then_failed g = rw z (then_fails f v.0 b.0 e.0 h g)
 
-pub term_room : {s : List ℕ} {q kind : ℕ} (K n : ℕ) → leb (fields_at + n) (term_size K) ≡ true → TermPlace s q kind → kind ≡ K → q + (fields_at + n) ≤ length s
-term_room {s} {q} K n t T e = omega (arith, rw e at T.fits, leb-true (fields_at + n) (term_size K) t)
+      pub branch : {r : Outcome} → Says f (ok tt) (target_check f b.0) → Says f r (target_check f e.0) → Ends f i r
+      branch g k = rw z (else_says f v.0 b.0 e.0 h g k)
+
+  module _ {r : Outcome} where
+    pub jump : {b : BlockId} → i ≡ term.Jump b → Says f r (target_check f b.0) → Ends f i r
+    unfolding verify_terminator
+    jump {b} z h = rw z (says_all {f = f} (target_check f b.0) h)
+
+    pub return : {v : Option ValueId} → i ≡ term.Return v → Checks f r (return_check f v) → Ends f i r
+    unfolding verify_terminator return_check
+    return z h = rw z h

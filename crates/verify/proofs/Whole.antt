@@ -10,8 +10,8 @@ use Rattle.definitions.specs.Records.{Good, Bad}
 use Rattle.definitions.specs.ProgramSheet.{read_program, refusal40}
 use Rattle.definitions.specs.Verify.{VerifyError, function_ids, verify_functions, verify_program}
 use Rattle.definitions.specs.Answers.{refusal, verify_refusal, verify_sheet}
-use Rattle.program_nodes.specs.Positions.{functions_here, functions_of, ids_of_all, ProgramHere}
-use Rattle.program_nodes.proofs.Functions.{program_at}
+use Rattle.program_nodes.specs.Positions.{functions_here, functions_of, ids_of_all}
+use Rattle.program_nodes.proofs.FunctionSteps.{program_at}
 
 module _ (s : List ℕ) where
   pub too_long : 32768 < length s → err (refusal 1 []) ≡ verify_sheet s
@@ -24,9 +24,6 @@ module _ (s : List ℕ) where
     malformed p e = rw (le-leb (length s) 32768 h, ← e)
 
     module _ (e : Good ≡ refusal40 s) where
-      pub functions_there : ProgramHere s
-      functions_there = (program_at s (sym e)).records
-
       abbrev answer : Result (ℕ × VerifyError) Done
       answer = verify_functions (functions_of s) (ids_of_all s)
 
@@ -34,10 +31,10 @@ module _ (s : List ℕ) where
       unfolding verify_program functions_here
       program_is = ap (λ (fs : List IrFunction). verify_functions fs (function_ids fs)) (program_at s (sym e)).functions
 
-      pub accepted : ok tt ≡ answer → ok [] ≡ verify_sheet s
+      pub accepted : {t : List ℕ} → t ≡ s → ok tt ≡ verify_functions (functions_of t) (ids_of_all t) → ok [] ≡ verify_sheet s
       unfolding verify_sheet
-      accepted f = rw (le-leb (length s) 32768 h, ← e, program_is, ← f)
+      accepted z f = rw (le-leb (length s) 32768 h, ← e, program_is, ← (rw z at f))
 
-      pub refused : (x : ℕ × VerifyError) → err x ≡ answer → err (verify_refusal x) ≡ verify_sheet s
+      pub refused : {t : List ℕ} (x : ℕ × VerifyError) → t ≡ s → err x ≡ verify_functions (functions_of t) (ids_of_all t) → err (verify_refusal x) ≡ verify_sheet s
       unfolding verify_sheet
-      refused x f = rw (le-leb (length s) 32768 h, ← e, program_is, ← f)
+      refused x z f = rw (le-leb (length s) 32768 h, ← e, program_is, ← (rw z at f))

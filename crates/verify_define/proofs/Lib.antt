@@ -1,2 +1,2 @@
 pub mod Tables
-mod Firsts
+pub mod Firsts

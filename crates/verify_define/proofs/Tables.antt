@@ -16,7 +16,7 @@ use Rattle.definitions.specs.Verify.{VerifyError, Checked, Defined, defined_type
 use Rattle.definitions.proofs.Results.{ok_inj, err_ok, taking}
 use Rattle.program_nodes.specs.Offsets.{records_at, fields_at}
 use Rattle.program_nodes.specs.Positions.{kind_here, stop_here, instr_here, instrs_here, blocks_here, BlockFrom, BlocksFrom}
-use Rattle.program_nodes.specs.Definitions.{Definition, param_definitions, result_definition, block_definitions, blocks_definitions, first_definition, first_place}
+use Rattle.program_nodes.specs.Definitions.{Definition, param_definitions, result_definition, block_definitions, blocks_definitions, first_definition, is_at}
 use Rattle.program_nodes.proofs.Walk.{AtRecord, at_end, at_instr, at_term, at_record, instrs_step, instrs_term, instrs_end, AtBlock, no_block_lem, at_block, at_blocks, blocks_step, blocks_end}
 use Rattle.program_nodes.proofs.Definitions.{or_else, first_append, instr_definitions, term_definitions, end_definitions, blocks_definitions_lem, no_blocks}
 use Rattle.program_nodes.proofs.Ascending.{Ascends, new_place, old_place}
@@ -60,7 +60,7 @@ same_more ds pre e t S n ty v = go (eqb e.value v) refl
 
 -- ONE DEFINITION of a type t: it is new exactly if its first place is its own
 module _ (ds : Defined) (pre : List Definition) (e : Definition) (post : List Definition) (lo : ℕ) (a : Ascends lo (pre ++ (e ∷ post))) (S : SameTable ds pre) (t : IrType) where
-  pub insert_new : first_place e.value (pre ++ (e ∷ post)) ≡ e.place → insert e.value t ds ≡ ok ((e.value, t) ∷ ds)
+  pub insert_new : is_at (first_definition e.value (pre ++ (e ∷ post))) e.place ≡ true → insert e.value t ds ≡ ok ((e.value, t) ∷ ds)
   insert_new p = go (defined_type e.value ds) refl
     where
       go : (d : Option IrType) → defined_type e.value ds ≡ d → insert e.value t ds ≡ ok ((e.value, t) ∷ ds)
@@ -69,7 +69,7 @@ module _ (ds : Defined) (pre : List Definition) (e : Definition) (post : List De
           let x = agree_some (first_definition e.value pre) (defined_type e.value ds) u (S e.value) q in
           absurd (old_place lo pre e post x.0 a x.1 p)
 
-  pub insert_old : (first_place e.value (pre ++ (e ∷ post)) ≡ e.place → ⊥) → insert e.value t ds ≡ err (VerifyError.DuplicateValueDef e.value)
+  pub insert_old : (is_at (first_definition e.value (pre ++ (e ∷ post))) e.place ≡ true → ⊥) → insert e.value t ds ≡ err (VerifyError.DuplicateValueDef e.value)
   insert_old p = go (defined_type e.value ds) refl
     where
       go : (d : Option IrType) → defined_type e.value ds ≡ d → insert e.value t ds ≡ err (VerifyError.DuplicateValueDef e.value)

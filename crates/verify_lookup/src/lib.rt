@@ -1,154 +1,150 @@
 // The definition of a value, and whether a block or a function has an id: the searches that references stand on.
 #![tactic(auto)]
 
-ghost use Rattle.std.specs.Prelude.{◌≡◌, ◌≤◌, ◌<◌, eqb, length};
-ghost use Rattle.definitions.specs.Ir.{contains};
-ghost use Rattle.definitions.specs.Records.{read_records};
+ghost use Rattle.std.specs.Prelude.{ℕ, ◌≡◌, IfSome};
+ghost use Rattle.definitions.specs.Ir.{contains, find};
+ghost use Rattle.definitions.specs.Bench.{function_with};
 ghost use Rattle.definitions.specs.Verify.{block_ids};
-ghost use Rattle.program_nodes.specs.Positions.{Numbered, BlockFrom, ids_of_all, ir_of, ProgramHere, FunctionHere};
-ghost use Rattle.program_nodes.specs.Definitions.{block_definitions, params_of, definitions_of, first_place, first_type};
-ghost use Rattle.verify_lookup.specs.Found.{BlockFound, FunctionFound};
+ghost use Rattle.ir.specs.Types.{as_type};
+ghost use Rattle.ir.specs.Answers.{option_of};
+ghost use Rattle.program_nodes.specs.Definitions.{first_definition, first_type, is_at};
+ghost use Rattle.program_nodes.specs.Nodes.{ir_of, functions_of, ids_of_all, block_in, param_definition_in, block_definitions_of, params_of, definitions_of};
+ghost use Rattle.verify_lookup.specs.Found.{instr_definition_in, definition_in};
 
-use format::{ABSENT, kinds, program};
-use ir::{BlockId, FunctionId, NO_TYPE, ValueId};
-use program_nodes::Function;
+use ir::{BlockId, FunctionId, IrType, ValueId};
+use program_nodes::{Block, Function, Instr, Param, Program, Record};
 
-// The place of the parameter that is the value v; 0 if none is.
-fn find_param(s: &[u8], f: Function, v: ValueId) -> usize
-    requires { FunctionHere s.now f }
-    ensures { result ≡ first_place v.0 (params_of s.now f) }
-{
-    let mut left = reader::read_u16(s, f.at + program::PARAM_COUNT);
-    let mut p = f.at + program::PARAMS;
-    while 0 < left {
-        if reader::read_u16(s, p) == v.0 {
-            return p;
-        }
-        p += program::PARAM;
-        left -= 1;
-    }
-    0
+// Where a value is defined.
+#[derive(Clone, Copy, Debug)]
+pub enum Definition<'a> {
+    Param(Param<'a>),
+    Instr(Instr<'a>),
 }
 
-// The place of the first instruction from `from` on, in the block that stops at `end`, whose result is v; 0 if there is none.
-fn find_in_block(s: &[u8], from: usize, end: usize, v: ValueId) -> usize
-    requires { BlockFrom s.now from end × ((end ≤ length s.now) × (v.0 < 65535)) }
-    ensures { result ≡ first_place v.0 (block_definitions (read_records s.now from end)) }
-{
-    let mut q = from;
-    while q < end {
-        if kinds::LAST_INSTRUCTION < program_nodes::kind_at(s, q) {
-            return 0;
+impl Definition<'_> {
+    // Its place, which no other definition has.
+    pub fn place(self) -> usize
+        ensures { (v : ℕ) → result ≡ (definition_in v self.entry).place }
+    {
+        match self {
+            Definition::Param(param) => param.at,
+            Definition::Instr(instr) => instr.at,
         }
-        if reader::read_u16(s, q + program::RESULT) == v.0 {
-            return q;
-        }
-        q = program_nodes::stop_at(s, q);
     }
-    0
+
+    // The type of the value.
+    pub fn ty(self) -> Option<IrType>
+        ensures { (v : ℕ) → option_of as_type result ≡ (definition_in v self.entry).type }
+    {
+        match self {
+            Definition::Param(param) => Some(param.ty()),
+            Definition::Instr(instr) => instr.result_type(),
+        }
+    }
 }
 
-// The place of the first definition of v, a parameter or an instruction; 0 if there is none. ABSENT is the value of no result.
-fn first_definition(s: &[u8], f: Function, v: ValueId) -> usize
-    requires { FunctionHere s.now f }
-    ensures { result ≡ first_place v.0 (definitions_of s.now f) }
+// The first parameter that is the value v.
+fn find_param<'a>(f: Function<'a>, v: ValueId) -> Option<Param<'a>>
+    ensures { option_of param_definition_in result ≡ first_definition v.0 (params_of f.entry) }
 {
-    if v.0 == ABSENT {
-        return 0;
-    }
-    let p = find_param(s, f, v);
-    if p != 0 {
-        return p;
-    }
-    let mut b = f.first;
-    while b < f.stop {
-        let end = program_nodes::stop_at(s, b);
-        let q = find_in_block(s, b + program::RECORDS, end, v);
-        if q != 0 {
-            return q;
+    let mut params = f.params();
+    while let Some(param) = params.next() {
+        if param.value() == v {
+            return Some(param);
         }
-        b = end;
     }
-    0
+    None
 }
 
-// The code of the type of the value v; NO_TYPE if it is not defined.
-pub fn defined_type(s: &[u8], f: Function, v: ValueId) -> usize
-    requires { FunctionHere s.now f }
-    ensures { Numbered (first_type v.0 (definitions_of s.now f)) result }
+// The first instruction of a block whose result is v.
+fn find_in_block<'a>(block: Block<'a>, v: ValueId) -> Option<Instr<'a>>
+    ensures { option_of (instr_definition_in v.0) result ≡ first_definition v.0 (block_definitions_of block.entry) }
 {
-    let p = first_definition(s, f, v);
-    if p == 0 {
-        return NO_TYPE;
+    let mut records = block.records();
+    while let Some(record) = records.next() {
+        match record {
+            Record::Instr(instr) => {
+                if instr.result() == Some(v) {
+                    return Some(instr);
+                }
+            }
+            Record::Term(_) => return None,
+        }
     }
-    if p < f.first {
-        return program_nodes::type_at(s, p + program::PARAM_TYPE);
+    None
+}
+
+// The first definition of v, a parameter or an instruction.
+pub fn first_definition<'a>(f: Function<'a>, v: ValueId) -> Option<Definition<'a>>
+    ensures { option_of (definition_in v.0) result ≡ first_definition v.0 (definitions_of f.entry) }
+{
+    if let Some(param) = find_param(f, v) {
+        return Some(Definition::Param(param));
     }
-    let kind = program_nodes::kind_at(s, p);
-    program_nodes::result_type(s, p, kind)
+    let mut blocks = f.blocks();
+    while let Some(block) = blocks.next() {
+        if let Some(instr) = find_in_block(block, v) {
+            return Some(Definition::Instr(instr));
+        }
+    }
+    None
+}
+
+// The type of the value v, if it is defined.
+pub fn defined_type(f: Function<'_>, v: ValueId) -> Option<IrType>
+    ensures { option_of as_type result ≡ first_type v.0 (definitions_of f.entry) }
+{
+    first_definition(f, v)?.ty()
 }
 
 // Whether the first definition of v stands at `place`.
-pub fn is_first_definition(s: &[u8], f: Function, v: ValueId, place: usize) -> bool
-    requires { FunctionHere s.now f }
-    ensures { result ≡ eqb (first_place v.0 (definitions_of s.now f)) place }
+pub fn is_first_definition(f: Function<'_>, v: ValueId, place: usize) -> bool
+    ensures { result ≡ is_at (first_definition v.0 (definitions_of f.entry)) place }
 {
-    first_definition(s, f, v) == place
+    match first_definition(f, v) {
+        Some(definition) => definition.place() == place,
+        None => false,
+    }
 }
 
-// The place of the first block of the function with the id; 0 if there is none.
-pub fn find_block(s: &[u8], f: Function, b: BlockId) -> usize
-    requires { FunctionHere s.now f }
-    ensures { BlockFound s.now f b.0 result }
+// The first block of the function with the id.
+pub fn find_block<'a>(f: Function<'a>, b: BlockId) -> Option<Block<'a>>
+    ensures is { option_of block_in result ≡ find b.0 (ir_of f.entry).blocks }
+    ensures same_sheet { IfSome result (λ block. block.sheet.now ≡ f.entry.program.sheet.now) }
 {
-    let mut p = f.first;
-    while p < f.stop {
-        if reader::read_u16(s, p + program::BLOCK_ID) == b.0 {
-            return p;
+    let mut blocks = f.blocks();
+    while let Some(block) = blocks.next() {
+        if block.id() == b {
+            return Some(block);
         }
-        p = program_nodes::stop_at(s, p);
     }
-    0
+    None
 }
 
 // Whether a block of the function has the id.
-pub fn has_block(s: &[u8], f: Function, b: BlockId) -> bool
-    requires { FunctionHere s.now f }
-    ensures { result ≡ contains b.0 (block_ids (ir_of s.now f).blocks) }
+pub fn has_block(f: Function<'_>, b: BlockId) -> bool
+    ensures { result ≡ contains b.0 (block_ids (ir_of f.entry).blocks) }
 {
-    let p = find_block(s, f, b);
-    if p == 0 {
-        return false;
-    }
-    true
+    find_block(f, b).is_some()
 }
 
-// The place of the first function of the program with the id; 0 if there is none.
-pub fn find_function(s: &[u8], g: FunctionId) -> usize
-    requires { ProgramHere s.now }
-    ensures { FunctionFound s.now g.0 result }
+// The first function of the program with the id.
+pub fn find_function<'a>(program: Program<'a>, g: FunctionId) -> Option<Function<'a>>
+    ensures is { option_of ir_of result ≡ function_with g.0 (functions_of program.entry) }
+    ensures same_sheet { IfSome result (λ f. f.program.sheet.now ≡ program.entry.sheet.now) }
 {
-    let mut p = program::FUNCTIONS;
-    while p < s.len() {
-        if program_nodes::kind_at(s, p) != kinds::IR_FUNCTION {
-            return 0;
+    let mut functions = program.functions();
+    while let Some(function) = functions.next() {
+        if function.id() == g {
+            return Some(function);
         }
-        if reader::read_u16(s, p + program::FUNCTION_ID) == g.0 {
-            return p;
-        }
-        p = program_nodes::stop_at(s, p);
     }
-    0
+    None
 }
 
 // Whether a function of the program has the id.
-pub fn has_function(s: &[u8], g: FunctionId) -> bool
-    requires { ProgramHere s.now }
-    ensures { result ≡ contains g.0 (ids_of_all s.now) }
+pub fn has_function(program: Program<'_>, g: FunctionId) -> bool
+    ensures { result ≡ contains g.0 (ids_of_all program.entry) }
 {
-    let p = find_function(s, g);
-    if p == 0 {
-        return false;
-    }
-    true
+    find_function(program, g).is_some()
 }

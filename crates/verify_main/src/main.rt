@@ -4,7 +4,6 @@
 // contract on the bytes: from the sheet in the buffer to the line in `text`.
 #![tactic(auto)]
 
-use console::Input;
 use lines::LINE;
 
 fn main(rt: HostRuntime) {
@@ -12,7 +11,7 @@ fn main(rt: HostRuntime) {
         return;
     }
     let mut sheet = io::large_buffer();
-    let Input::Read(n) = console::read(&rt, &mut sheet) else {
+    let Some(n) = console::read(&rt, &mut sheet) else {
         return;
     };
     let mut text = [0u8; LINE];

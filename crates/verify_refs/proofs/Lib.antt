@@ -1,3 +1,2 @@
-mod Ids
 pub mod Values
-mod Operands
+pub mod Types

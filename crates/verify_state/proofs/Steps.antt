@@ -1,25 +1,20 @@
 -- A part of the check that failed or passed, and what follows it. Assumes nothing.
-use mathlib.Core.Path.{◌≡◌, refl, sym, ◌∙◌}
-use mathlib.Core.Bool.{Bool, true, false, not}
-use mathlib.Core.List.{List}
+use mathlib.Core.Path.{◌≡◌, refl, ap, sym, ◌∙◌}
 use Prim.Native.Nat.{ℕ}
+use Rattle.std.specs.Prelude.{Result, Ok, Err, IsErr, IsErrAnd}
 use Rattle.definitions.specs.Result.{err, ok, ◌>>=◌, ◌>>◌, map_err, Done}
 use Rattle.definitions.specs.Verify.{VerifyError, Checked, Defined}
 use Rattle.definitions.proofs.Results.{err_ok}
-use Rattle.program_nodes.specs.Definitions.{definitions_of}
-use Rattle.program_nodes.specs.declared.Function.{Function}
-use Rattle.verify_state.specs.Errors.{checked_of, named}
-use Rattle.verify_state.specs.declared.Checked.{Checked as Answer}
-use Rattle.verify_state.specs.Promises.{Outcome, SameTable, Says, Checks}
+use Rattle.program_nodes.specs.Nodes.{definitions_of}
+use Rattle.program_nodes.specs.declared.program.Function.{Function}
+use Rattle.verify_state.specs.Errors.{Outcome, error_of, checked_of, named}
+use Rattle.verify_state.specs.declared.VerifyError.{VerifyError as VerifyFault}
+use Rattle.verify_state.specs.Promises.{SameTable, Says, Checks}
 
--- a test and its answer
-pub not_true : (b : Bool) → not b ≡ true → b ≡ false
-not_true true e = sym e
-not_true false e = refl
-
-pub not_false : (b : Bool) → not b ≡ false → b ≡ true
-not_false true e = refl
-not_false false e = sym e
+-- an error that `?` handed on
+pub handed_on : (r : Result (Unit {0}) VerifyFault) (x : VerifyFault) → IsErr r × IsErrAnd r (λ e. e ≡ x) → checked_of r ≡ err (error_of x)
+handed_on (Err e) x h = ap (λ (y : VerifyFault). err (error_of y)) h.1
+handed_on (Ok a) x h = absurd h.1
 
 pub failed : {A B : Type 0} {x : ℕ × VerifyError} (n : ℕ) (r : Checked A) (k : A → Checked B) → err x ≡ named n r → err x ≡ named n (r >>= k)
 failed n (err y) k e = e
@@ -46,36 +41,32 @@ pub mapped : (n : ℕ) (r : Checked Done) → map_err (λ (x : VerifyError). (n,
 mapped n (err x) = refl
 mapped n (ok tt) = refl
 
--- what a call promised of its answer, by the answer that a match told
-pub told : {A : Type 0} {s : List ℕ} {f : Function} {k : Defined → Checked A} {r x : Answer} → r ≡ x → Checks s f (checked_of r) k → Checks s f (checked_of x) k
-told e h = rw e at h
-
 -- WITH A FUNCTION'S TABLE: what is left says what the whole says
-pub record Leads {A B : Type 0} (s : List ℕ) (f : Function) (whole : Defined → Checked A) (left : Defined → Checked B) : Type 0 where
-  pub same : (ds : Defined) → SameTable ds (definitions_of s f) → named f.name.0 (left ds) ≡ named f.name.0 (whole ds)
+pub record Leads {A B : Type 0} (f : Function) (whole : Defined → Checked A) (left : Defined → Checked B) : Type 0 where
+  pub same : (ds : Defined) → SameTable ds (definitions_of f) → named f.name.0 (left ds) ≡ named f.name.0 (whole ds)
 
-module _ {A B : Type 0} {s : List ℕ} {f : Function} {whole : Defined → Checked A} {left : Defined → Checked B} (L : Leads s f whole left) where
-  pub lead_over : {r : Outcome} → Checks s f r left → Checks s f r whole
+module _ {A B : Type 0} {f : Function} {whole : Defined → Checked A} {left : Defined → Checked B} (L : Leads f whole left) where
+  pub lead_over : {r : Outcome} → Checks f r left → Checks f r whole
   lead_over h = record { says = λ ds S. h.says ds S ∙ L.same ds S }
 
-module _ {A B C : Type 0} {s : List ℕ} {f : Function} {whole : Defined → Checked A} (first : Defined → Checked B) (rest : Defined → Checked C) (L : Leads s f whole (λ (ds : Defined). first ds >> rest ds)) where
-  pub lead_failed : {x : ℕ × VerifyError} → Checks s f (err x) first → Checks s f (err x) whole
+module _ {A B C : Type 0} {f : Function} {whole : Defined → Checked A} (first : Defined → Checked B) (rest : Defined → Checked C) (L : Leads f whole (λ (ds : Defined). first ds >> rest ds)) where
+  pub lead_failed : {x : ℕ × VerifyError} → Checks f (err x) first → Checks f (err x) whole
   lead_failed h = record { says = λ ds S. failed_then f.name.0 (first ds) (rest ds) (h.says ds S) ∙ L.same ds S }
 
-  pub lead_passed : Checks s f (ok tt) first → Leads s f whole rest
+  pub lead_passed : Checks f (ok tt) first → Leads f whole rest
   lead_passed h = record { same = λ ds S. sym (passed_then f.name.0 (first ds) (rest ds) (h.says ds S)) ∙ L.same ds S }
 
 -- a part that no table is asked for
-pub says_all : {A : Type 0} {s : List ℕ} {f : Function} {r : Outcome} (x : Checked A) → Says f r x → Checks s f r (λ (ds : Defined). x)
+pub says_all : {A : Type 0} {f : Function} {r : Outcome} (x : Checked A) → Says f r x → Checks f r (λ (ds : Defined). x)
 says_all x e = record { says = λ ds S. e }
 
 -- two parts, one after the other
-module _ {A B : Type 0} {s : List ℕ} {f : Function} (first : Defined → Checked A) (rest : Defined → Checked B) where
-  whole : Leads s f (λ (ds : Defined). first ds >> rest ds) (λ (ds : Defined). first ds >> rest ds)
+module _ {A B : Type 0} {f : Function} (first : Defined → Checked A) (rest : Defined → Checked B) where
+  whole : Leads f (λ (ds : Defined). first ds >> rest ds) (λ (ds : Defined). first ds >> rest ds)
   whole = record { same = λ ds S. refl }
 
-  pub first_failed : {x : ℕ × VerifyError} → Checks s f (err x) first → Checks s f (err x) (λ (ds : Defined). first ds >> rest ds)
+  pub first_failed : {x : ℕ × VerifyError} → Checks f (err x) first → Checks f (err x) (λ (ds : Defined). first ds >> rest ds)
   first_failed h = lead_failed first rest whole h
 
-  pub then_rest : {r : Outcome} → Checks s f (ok tt) first → Checks s f r rest → Checks s f r (λ (ds : Defined). first ds >> rest ds)
+  pub then_rest : {r : Outcome} → Checks f (ok tt) first → Checks f r rest → Checks f r (λ (ds : Defined). first ds >> rest ds)
   then_rest h g = lead_over (lead_passed first rest whole h) g

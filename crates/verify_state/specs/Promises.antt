@@ -1,16 +1,12 @@
 -- What a part of the check promises of its answer. Helpers of contracts: no public promise cites them. Assumes nothing: these are definitions.
 use Rattle.std.specs.Prelude.{ℕ, ◌≡◌, List}
 use Rattle.std.proofs.Math.Option.{Option, none, some}
-use Rattle.definitions.specs.Result.{Result, Done}
 use Rattle.definitions.specs.Ir.{IrType}
-use Rattle.definitions.specs.Verify.{VerifyError, Checked, Defined, defined_type}
-use Rattle.program_nodes.specs.Definitions.{Definition, definitions_of, first_definition}
-use Rattle.program_nodes.specs.declared.Function.{Function}
-use Rattle.verify_state.specs.Errors.{named}
-
--- a part's answer: nothing, or an error with its function's name
-abbrev pub Outcome : Type 0
-Outcome = Result (ℕ × VerifyError) Done
+use Rattle.definitions.specs.Verify.{Checked, Defined, defined_type}
+use Rattle.program_nodes.specs.Definitions.{Definition, first_definition}
+use Rattle.program_nodes.specs.Nodes.{definitions_of}
+use Rattle.program_nodes.specs.declared.program.Function.{Function}
+use Rattle.verify_state.specs.Errors.{Outcome, named}
 
 -- the verifier's table has the definitions: the same values with the same types
 abbrev pub Agree : Option Definition → Option IrType → Type 0
@@ -27,5 +23,5 @@ abbrev pub Says : {A : Type 0} → Function → Outcome → Checked A → Type 0
 Says f r x = r ≡ named f.name.0 x
 
 -- r is what k says with f's table
-pub record Checks {A : Type 0} (s : List ℕ) (f : Function) (r : Outcome) (k : Defined → Checked A) : Type 0 where
-  pub says : (ds : Defined) → SameTable ds (definitions_of s f) → Says f r (k ds)
+pub record Checks {A : Type 0} (f : Function) (r : Outcome) (k : Defined → Checked A) : Type 0 where
+  pub says : (ds : Defined) → SameTable ds (definitions_of f) → Says f r (k ds)

@@ -1,41 +1,18 @@
 -- `analyze`: the check of the sheet, then the bodies. Assumes nothing.
-use mathlib.Core.Path.{◌≡◌, sym, ap, ◌∙◌}
-use Rattle.definitions.specs.Result.{Result, Done}
-use Rattle.definitions.specs.Answers.{Refusal}
-use Rattle.sheet.specs.Forms.{check_of}
-use Rattle.sheet.specs.declared.ContractCheck.{ContractCheck}
-use Rattle.sheet.proofs.Contracts as contracts
+use Rattle.std.proofs.lemmas.Result.{err_from_is_err_and}
 use Rattle.analyze.proofs.Answering.{stopped, passed}
 use Rattle.analyze.proofs.analyze.Goals as goal
 
--- what the check gave, r, was found to be x
-found : {r x : ContractCheck} {a : Result Refusal Done} → check_of r ≡ a → r ≡ x → a ≡ check_of x
-found e q = sym e ∙ ap check_of q
+pub returns-in_err-contract : goal.returns-in_err-contract
+returns-in_err-contract c =
+    let p = err_from_is_err_and c.from_residual.result c.from_residual.ensures.1 in
+    rw (p.1, p.2) (stopped c.args.sheet.now c.in_err-contract.ensures.is)
 
-pub analyze_contract-requires : goal.analyze_contract-requires
-unfolding check_of
-analyze_contract-requires c =
-    let p = contracts.passed _ (found c.check_contract.ensures c.in-Passed.is) in
-    record { short = p.short; form = p.form; limits = p.limits }
+pub returns-in_err-analyze_contract : goal.returns-in_err-analyze_contract
+returns-in_err-analyze_contract c =
+    let r = c.from_residual-in_err-analyze_contract in
+    let p = err_from_is_err_and r.result r.ensures.1 in
+    rw (p.1, p.2) (passed c.args.sheet.now c.in_ok-contract.ensures.is c.in_ok-contract.ensures.same_sheet c.in_err-analyze_contract.ensures)
 
-pub returns-in-Passed-analyze_contract : goal.returns-in-Passed-analyze_contract
-unfolding check_of
-returns-in-Passed-analyze_contract c =
-    passed _ (found c.check_contract.ensures c.in-Passed.is) c.analyze_contract.ensures c.in-Passed-analyze_contract.is
-
-pub returns-in-Failed : goal.returns-in-Failed
-unfolding check_of
-returns-in-Failed c =
-    passed _ (found c.check_contract.ensures c.in-Passed.is) c.analyze_contract.ensures c.in-Failed.is
-
-pub returns-in-TooLong : goal.returns-in-TooLong
-unfolding check_of
-returns-in-TooLong c = stopped _ (found c.check_contract.ensures c.in-TooLong.is)
-
-pub returns-in-Malformed : goal.returns-in-Malformed
-unfolding check_of
-returns-in-Malformed c = stopped _ (found c.check_contract.ensures c.in-Malformed.is)
-
-pub returns-in-OverLimit : goal.returns-in-OverLimit
-unfolding check_of
-returns-in-OverLimit c = stopped _ (found c.check_contract.ensures c.in-OverLimit.is)
+pub returns : goal.returns
+returns c = passed c.args.sheet.now c.in_ok-contract.ensures.is c.in_ok-contract.ensures.same_sheet c.in_ok-analyze_contract.ensures

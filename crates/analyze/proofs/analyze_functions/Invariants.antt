@@ -1,10 +1,13 @@
--- `analyze_functions`: the functions by their places. The loop's invariant (`Turning`): what is left gives what all give. Assumes nothing.
-use Prim.Native.Nat.{◌-◌}
-use Rattle.analyze.proofs.Turning.{Turning}
+-- `analyze::analyze_functions`: what is left of the functions gives what all of them give. Assumes nothing.
+use mathlib.Core.Path.{◌≡◌}
+use lib.ListN.{drop}
+use Rattle.contract_nodes.specs.Nodes.{contract_in}
+use Rattle.analyze_walk.specs.Stops.{check_functions}
+use Rattle.analyze.specs.Whole.{Empty}
 use Rattle.analyze.proofs.analyze_functions.Given as goal
 
 abbrev pub invariant-loop-i : goal.invariant-loop-i
-invariant-loop-i l = Turning l.s l.functions l.counts.functions l.initial.entries l.initial.heads l.entries l.heads l.i
-
-abbrev pub decreases-loop-i : goal.decreases-loop-i
-decreases-loop-i l = l.counts.functions - l.i
+invariant-loop-i l = record {
+  empty : Empty l.contract.sheet.now l.env;
+  is : check_functions (contract_in l.contract) (drop l.i (contract_in l.contract).functions) ≡ check_functions (contract_in l.contract) (contract_in l.contract).functions;
+}

@@ -1,7 +1,7 @@
 -- `analyze_env::chain_of`: by the number of chains. Assumes nothing.
 use native.Mathlib.Omega.{arith}
 use borrow.Author.Tests.{lt-ltb, le-ltb}
-use Rattle.analyze_env.specs.Known.{chain_of}
+use Rattle.analyze_env.specs.Entries.{chain_of}
 use Rattle.analyze_env.proofs.chain_of.Goals as goal
 
 pub returns-then-chains-lt-ALL : goal.returns-then-chains-lt-ALL

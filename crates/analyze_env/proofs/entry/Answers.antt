@@ -1,6 +1,6 @@
 -- `analyze_env::entry`: the three parts do not meet. Assumes nothing.
 use native.Mathlib.Omega.{arith}
-use Rattle.analyze_env.specs.Known.{as_ty}
+use Rattle.analyze_env.specs.Types.{as_ty}
 use Rattle.analyze_env.proofs.Packed.{packed}
 use Rattle.analyze_env.proofs.entry.Goals as goal
 

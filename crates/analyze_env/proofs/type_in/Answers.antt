@@ -8,4 +8,4 @@ returns-then-code-eq-UNKNOWN_CODE c = unknown_in c.args.e c.if-code-eq-UNKNOWN_C
 
 pub returns : goal.returns
 returns c =
-    known_in c.args.e (as_type c.type_of_code-t.result) c.if-code-eq-UNKNOWN_CODE.false c.type_of_code-t.ensures
+    known_in c.args.e (as_type c.from-t.result) c.if-code-eq-UNKNOWN_CODE.false c.from-t.ensures

@@ -1,38 +1,46 @@
--- The measures of the cycle of expressions, and the loops' invariants. Two for each level of depth, and a rank: an expression is a call or a
--- literal, whose expressions are further down. Assumes nothing.
-use Prim.Native.Nat.{◌+◌, ◌-◌, ◌*◌}
-use Rattle.definitions.specs.ContractSheet.{read_contract, struct_of}
-use Rattle.contract_nodes.specs.Ready.{tree_at, expr_at}
-use Rattle.analyze_env.specs.Known.{env_of}
-use Rattle.analyze_walk.specs.Stops.{check_expr}
+-- The measures of the cycle of expressions, and the loops' invariants. Two for each level of depth, and a rank: the parts of an expression are one
+-- level down. Assumes nothing.
+use mathlib.Core.Path.{◌≡◌}
+use Prim.Native.Nat.{◌+◌, ◌-◌, ◌*◌, ◌≤◌}
+use Rattle.definitions.specs.Result.{◌>>◌, ok}
+use Rattle.definitions.specs.Ir.{IrType}
+use Rattle.definitions.specs.Analyze.{known}
+use Rattle.contract_nodes.specs.Nodes.{struct_in, fields_in, exprs_in}
+use Rattle.analyze_walk.specs.Stops.{check_fields}
+use Rattle.analyze_state.specs.State.{contract_of, OfSheet}
+use Rattle.analyze_exprs.specs.Typed.{check_literal, check_call}
 use Rattle.analyze_exprs.specs.Calls.{callee_in}
-use Rattle.analyze_exprs.proofs.ArgSteps.{Going}
-use Rattle.analyze_exprs.proofs.FieldSteps.{Fields}
+use Rattle.analyze_exprs.proofs.Turns.{Going}
 use Rattle.analyze_exprs.proofs.+exprs.Given as goal
 
 abbrev pub decreases-analyze_expr : goal.decreases-analyze_expr
-decreases-analyze_expr l = 2 * l.depth + 1
+decreases-analyze_expr l = 2 * l.e.depth
 
 abbrev pub decreases-analyze_literal : goal.decreases-analyze_literal
-decreases-analyze_literal l = 2 * l.depth
+decreases-analyze_literal l = 2 * l.inits.depth + 1
 
 abbrev pub decreases-analyze_call : goal.decreases-analyze_call
-decreases-analyze_call l = 2 * l.depth
+decreases-analyze_call l = 2 * l.args.depth + 1
 
 -- the fields that are left give what the whole literal gives
-abbrev pub invariant-analyze_literal-loop-field : goal.invariant-analyze_literal-loop-field
-invariant-analyze_literal-loop-field l =
-    let env = env_of l.entries l.ctx.names in
-    Fields l.s (l.depth - 1) env l.at (struct_of (tree_at l.s l.of)).fields l.name.0 (check_expr (read_contract l.s) env (expr_at l.s l.at)) l.stop l.field
+abbrev pub invariant-analyze_literal-loop-init : goal.invariant-analyze_literal-loop-init
+invariant-analyze_literal-loop-init l = record {
+  sheet : OfSheet l.a l.inits.contract;
+  depth : l.inits.depth ≡ l.fn.inits.depth;
+  is : (check_fields (contract_of l.a) l.env.names l.at (struct_in l.of).fields (fields_in l.inits) >> ok (known (IrType.Struct l.name.0))) ≡ check_literal (contract_of l.a) l.env.names l.at l.name.0 (fields_in l.fn.inits);
+}
 
-abbrev pub decreases-analyze_literal-loop-field : goal.decreases-analyze_literal-loop-field
-decreases-analyze_literal-loop-field l = l.stop - l.field
+abbrev pub decreases-analyze_literal-loop-init : goal.decreases-analyze_literal-loop-init
+decreases-analyze_literal-loop-init l = l.inits.end - l.inits.at
 
--- the arguments that are left, after the types so far, give what the whole call gives
+-- the arguments that are left, after the types so far, give what the whole call gives; each takes a place
 abbrev pub invariant-analyze_call-loop-arg : goal.invariant-analyze_call-loop-arg
-invariant-analyze_call-loop-arg l =
-    let env = env_of l.entries l.ctx.names in
-    Going l.s (l.depth - 1) env l.at (callee_in l.s l.callee) (check_expr (read_contract l.s) env (expr_at l.s l.at)) l.stop l.arg l.n l.fits
+invariant-analyze_call-loop-arg l = record {
+  sheet : OfSheet l.a l.args.contract;
+  depth : l.args.depth ≡ l.fn.args.depth;
+  few : l.n ≤ l.args.at;
+  left : Going (contract_of l.a) l.env.names l.at (callee_in l.callee) (check_call (contract_of l.a) l.env.names l.at l.fn.name.0 (exprs_in l.fn.args)) (exprs_in l.args) l.n l.fits;
+}
 
 abbrev pub decreases-analyze_call-loop-arg : goal.decreases-analyze_call-loop-arg
-decreases-analyze_call-loop-arg l = l.stop - l.arg
+decreases-analyze_call-loop-arg l = l.args.end - l.args.at

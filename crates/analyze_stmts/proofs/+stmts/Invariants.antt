@@ -1,27 +1,27 @@
--- The measures of the cycle of statements, and the loop over statements: what is left gives what the whole gives. Assumes nothing.
-use Rattle.std.proofs.Common.{◌-◌, ◌+◌, ◌*◌}
-use Rattle.analyze_stmts.proofs.StmtSteps.{Left}
+-- The measures of the cycle of statements, and the loop's invariant. Two for each level of depth, and a rank. Assumes nothing.
+use mathlib.Core.Path.{◌≡◌}
+use Prim.Native.Nat.{◌+◌, ◌-◌, ◌*◌}
+use Rattle.contract_nodes.specs.Nodes.{stmts_in}
+use Rattle.analyze_walk.specs.Stops.{check_stmts}
+use Rattle.analyze_state.specs.State.{contract_of, ret_of, OfSheet}
+use Rattle.analyze_stmts.specs.Room.{Grown}
 use Rattle.analyze_stmts.proofs.+stmts.Given as goal
 
--- four for each level of depth, and a rank: a list calls its statements, a statement its own kind, and a kind goes two levels down
-abbrev pub decreases-analyze_for : goal.decreases-analyze_for
-decreases-analyze_for l = 4 * l.depth + 0
-
-abbrev pub decreases-analyze_if : goal.decreases-analyze_if
-decreases-analyze_if l = 4 * l.depth + 0
-
-abbrev pub decreases-analyze_while : goal.decreases-analyze_while
-decreases-analyze_while l = 4 * l.depth + 0
-
 abbrev pub decreases-analyze_stmt : goal.decreases-analyze_stmt
-decreases-analyze_stmt l = 4 * l.depth + 1
+decreases-analyze_stmt l = 2 * l.t.depth
 
 abbrev pub decreases-analyze_stmts : goal.decreases-analyze_stmts
-decreases-analyze_stmts l = 4 * l.depth + 2
+decreases-analyze_stmts l = 2 * l.body.depth + 1
 
-abbrev pub invariant-analyze_stmts-loop-place : goal.invariant-analyze_stmts-loop-place
-invariant-analyze_stmts-loop-place l = Left l.s l.span.from l.span.end l.depth l.initial.entries l.initial.heads l.ctx l.entries l.heads l.names l.place
+-- the statements that are left, with the names so far, give what all of them give
+abbrev pub invariant-analyze_stmts-loop-t : goal.invariant-analyze_stmts-loop-t
+invariant-analyze_stmts-loop-t l = record {
+  sheet : OfSheet l.a l.body.contract;
+  depth : l.body.depth ≡ l.fn.body.depth;
+  end : l.body.end ≡ l.fn.body.end;
+  grown : Grown l.fn.env l.env l.body.at;
+  is : check_stmts (contract_of l.a) (ret_of l.a) (stmts_in l.body) l.env.names ≡ check_stmts (contract_of l.a) (ret_of l.a) (stmts_in l.fn.body) l.fn.env.names;
+}
 
--- the bytes left
-abbrev pub decreases-analyze_stmts-loop-place : goal.decreases-analyze_stmts-loop-place
-decreases-analyze_stmts-loop-place l = l.span.end - l.place
+abbrev pub decreases-analyze_stmts-loop-t : goal.decreases-analyze_stmts-loop-t
+decreases-analyze_stmts-loop-t l = l.body.end - l.body.at

@@ -1,37 +1,52 @@
--- `ir::kind_row`: one test over the 22 rows. Assumes nothing.
-use mathlib.Core.Path.{◌≡◌, refl, ap, ◌∙◌}
-use mathlib.Core.Bool.{Bool, true, ◌&&◌}
-use mathlib.Core.List.{List, [], ◌∷◌}
-use Prim.Native.Nat.{ℕ, ◌+◌, ◌-◌, ◌≤◌, ◌<◌}
-use native.Mathlib.Omega.{arith}
-use borrow.Author.Tests.{eqb-true}
-use lib.Dec.{eqb}
-use lib.ListN.{get_or}
+-- `ir::kind_row`: the table at each of its 22 rows, by computation. Assumes nothing.
+use mathlib.Core.Path.{◌≡◌, refl}
+use Prim.Native.Nat.{◌+◌, ◌-◌}
+use Rattle.std.proofs.Common.{slice_index_or}
+use Rattle.std.proofs.Math.Option.{some}
+use denote.Enum.Declared.{tag_of}
 use Rattle.definitions.specs.InstrTable.{kind_row}
-use Rattle.ir.specs.Kinds.{rule_number, effect_number}
-use Rattle.ir.specs.declared.KindRow.{KindRow}
-use Rattle.ir.proofs.Table.{at, both_left, both_right}
+use Rattle.format.specs.contracts.kinds.Instruction.{the_type}
+use Rattle.format.specs.declared.kinds.Instruction.{Instruction}
+use Rattle.format.specs.declared.kinds.Instruction.TheVariants as kinds
+use Rattle.format.specs.Kinds.{instr_number}
+use Rattle.ir.specs.Kinds.{rule_of, effect_of, rule_in, effect_in}
+use Rattle.ir.specs.declared.ResultRule.{ResultRule}
+use Rattle.ir.specs.declared.ResultRule.TheVariants.{None}
+use Rattle.ir.specs.declared.Effect.{Effect}
+use Rattle.ir.specs.declared.Effect.TheVariants.{Pure}
+use Rattle.ir.specs.declared.TheConstants.{KIND_ROWS}
 use Rattle.ir.proofs.kind_row.Goals as goal
 
-abbrev row : ℕ → ℕ → KindRow
-row r e = record { 0 = r; 1 = e }
+abbrev row_of : Instruction → ResultRule × Effect
+row_of k = slice_index_or KIND_ROWS (tag_of the_type k + 60 - 60) (None, Pure)
 
-abbrev rows : List KindRow
-rows =
-    row 1 0 ∷ row 1 0 ∷ row 1 0 ∷ row 1 0 ∷ row 1 0 ∷ row 3 0 ∷ row 3 0 ∷ row 3 0 ∷ row 3 0 ∷ row 3 0 ∷ row 3 0 ∷
-    row 1 1 ∷ row 0 2 ∷ row 1 3 ∷ row 0 4 ∷ row 1 0 ∷ row 0 2 ∷ row 2 7 ∷ row 0 0 ∷ row 4 0 ∷ row 0 6 ∷ row 4 5 ∷ []
+rows : (k : Instruction) → (some (rule_of (row_of k).0) ≡ rule_in (kind_row (instr_number k))) × (some (effect_of (row_of k).1) ≡ effect_in (kind_row (instr_number k)))
+unfolding kind_row
+rows kinds.Const = (refl, refl)
+rows kinds.Add = (refl, refl)
+rows kinds.Sub = (refl, refl)
+rows kinds.Mul = (refl, refl)
+rows kinds.Div = (refl, refl)
+rows kinds.Eq = (refl, refl)
+rows kinds.Ne = (refl, refl)
+rows kinds.Lt = (refl, refl)
+rows kinds.Le = (refl, refl)
+rows kinds.Gt = (refl, refl)
+rows kinds.Ge = (refl, refl)
+rows kinds.Load = (refl, refl)
+rows kinds.Store = (refl, refl)
+rows kinds.StateRead = (refl, refl)
+rows kinds.StateWrite = (refl, refl)
+rows kinds.ReadLocal = (refl, refl)
+rows kinds.WriteLocal = (refl, refl)
+rows kinds.Call = (refl, refl)
+rows kinds.Assert = (refl, refl)
+rows kinds.Poseidon = (refl, refl)
+rows kinds.Emit = (refl, refl)
+rows kinds.ContextRead = (refl, refl)
 
-right : ℕ → KindRow → Bool
-right k r = eqb r.0 (rule_number (k + 60)) && eqb r.1 (effect_number (k + 60))
+pub returns-clause-rule : goal.returns-clause-rule
+returns-clause-rule c = (rows c.args.kind).0
 
-rule : (k : ℕ) → 60 ≤ k → k < 82 → ((get_or rows (k - 60) (row 0 0)).0 ≡ rule_number k) × ((get_or rows (k - 60) (row 0 0)).1 ≡ effect_number k)
-unfolding right rule_number effect_number kind_row
-rule k low high =
-    let h : right (k - 60) (get_or rows (k - 60) (row 0 0)) ≡ true = at right (row 0 0) rows refl (k - 60) (omega arith) in
-    let e : k - 60 + 60 ≡ k = omega arith in
-    let x : Bool = eqb (get_or rows (k - 60) (row 0 0)).0 (rule_number (k - 60 + 60)) in
-    let y : Bool = eqb (get_or rows (k - 60) (row 0 0)).1 (effect_number (k - 60 + 60)) in
-    (eqb-true _ _ (both_left x y h) ∙ ap rule_number e, eqb-true _ _ (both_right x y h) ∙ ap effect_number e)
-
-pub returns : goal.returns
-returns c = rule c.args.kind c.requires.0 c.requires.1
+pub returns-clause-effect : goal.returns-clause-effect
+returns-clause-effect c = (rows c.args.kind).1

@@ -1,36 +1,26 @@
--- `line_text::put_hex`: what is left of the bytes is stored from `at + 3 * i` on. Assumes nothing.
-use mathlib.Core.Path.{◌≡◌, refl, ◌∙◌}
-use Prim.Native.Nat.{◌-◌}
-use native.Mathlib.Omega.{arith}
-use native.Mathlib.Nat.{add-zero, sub-zero}
-use lib.ListN.{length-set}
+-- `line_text::put_hex`: one more byte. Assumes nothing.
+use Rattle.std.proofs.Common.{◌≡◌, ℕ, ◌+◌, ◌-◌, ◌*◌, ◌≤◌, [], ◌∷◌, length, drop, refl, sym, ap, ◌∙◌, arith, length-drop}
+use lib.Seq.{take_all}
 use Rattle.definitions.specs.Lines.{hexed}
-use Rattle.line_text.proofs.Hexed.{hex_front}
+use Rattle.line_text.proofs.Placed.{put_length}
+use Rattle.line_text.proofs.Hexed.{hex_next}
 use Rattle.line_text.proofs.put_hex.Goals as goal
 
 pub loop-i-init : goal.loop-i-init
-loop-i-init c = (simp (add-zero, sub-zero), refl, omega arith)
-
-pub hex_digit-requires : goal.hex_digit-requires
-hex_digit-requires c = omega (arith, c.shared_slice_known-in-loop-i-1.given c.loop-i.i)
-
-pub bounds-text-high : goal.bounds-text-high
-bounds-text-high c = simp length-set (omega arith)
-
-pub hex_digit-requires-in-loop-i : goal.hex_digit-requires-in-loop-i
-hex_digit-requires-in-loop-i c = omega (arith, c.shared_slice_known-in-loop-i-1.given c.loop-i.i)
-
-pub bounds-text-low : goal.bounds-text-low
-bounds-text-low c = simp length-set (omega arith)
+unfolding hexed
+loop-i-init c = (c.requires, refl)
 
 pub loop-i-preserved : goal.loop-i-preserved
 loop-i-preserved c =
     let l = c.loop-i in
-    (hex_front l.text _ _ l.i _ _ _ c.loop-i-test.true c.requires.0 c.hex_digit.ensures c.hex_digit-in-loop-i.ensures ∙ l.invariant.0, simp length-set l.invariant.1, omega arith)
+    let size : 3 * l.i + 3 - 3 * l.i ≡ 3 = omega arith in
+    let room : 3 * l.i + 3 ≤ length l.text = omega (arith, c.loop-i-test.true, l.invariant.0) in
+    rw (size, c.copy_from_slice.ensures.after) (
+      put_length (3 * l.i) l.text (32 ∷ c.hex_digit.result ∷ c.hex_digit-in-loop-i.result ∷ []) (drop 3 (drop (3 * l.i) l.text)) (omega arith) (omega (arith, room, length-drop {A = ℕ})) ∙ l.invariant.0,
+      hex_next c.args.bytes.now l.text (drop 3 (drop (3 * l.i) l.text)) l.i _ _ c.loop-i-test.true (omega arith) c.hex_digit.ensures c.hex_digit-in-loop-i.ensures l.invariant.1,
+    )
 
 pub returns : goal.returns
-unfolding hexed
 returns c =
     let l = c.loop-i in
-    let z : c.args.n - l.i ≡ 0 = omega arith in
-    rw z at l.invariant.0
+    sym (take_all (3 * l.i) l.text (omega (arith, c.loop-i-test.false, l.invariant.0))) ∙ l.invariant.1 ∙ ap hexed (take_all l.i c.args.bytes.now c.loop-i-test.false)

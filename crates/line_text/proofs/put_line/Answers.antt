@@ -1,9 +1,11 @@
 -- `line_text::put_line`: the line, then zeros. Assumes nothing.
-use native.Mathlib.Omega.{arith}
-use Rattle.line_text.proofs.Zeros.{cleared}
+use Rattle.std.proofs.Common.{ap, ◌∙◌, arith}
+use Rattle.definitions.specs.Lines.{line_of}
+use Rattle.line_text.proofs.Zeros.{filled}
 use Rattle.line_text.proofs.put_line.Goals as goal
 
 pub returns : goal.returns
 returns c =
-    let b = c.put_front-end.ensures in
-    cleared _ c.args.out.now c.put_front-end.new.out _ c.put_front-end.result b.front b.same_length (omega arith) c.clear.ensures
+    let p = c.put_numbers-end in
+    let b = p.ensures in
+    filled _ p.new.out c.fill.new.self p.result _ (b.front ∙ ap line_of c.as_slice.ensures.is) b.same_length (omega (arith, b.short, c.requires)) (c.fill.ensures.after (λ y e. e))

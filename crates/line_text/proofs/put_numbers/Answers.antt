@@ -1,43 +1,37 @@
--- `line_text::put_numbers`: what is written, with the numbers that are left behind it, is the whole line; each number takes 21 bytes at most. Assumes nothing.
-use mathlib.Core.Path.{◌≡◌, refl, ◌∙◌}
-use mathlib.Core.List.{[], ◌∷◌, ◌++◌}
-use native.Mathlib.Omega.{arith}
-use lib.ListN.{length, take, get_or, length-set}
-use lib.Seq.{length-take-le, get_or-take}
-use Rattle.definitions.specs.Lines.{decimal}
-use Rattle.digits.proofs.Putting.{stored}
-use Rattle.line_text.proofs.Spaced.{first, next, last}
+-- `line_text::put_numbers`: one more number. Assumes nothing.
+use Rattle.std.proofs.Common.{◌≡◌, ◌+◌, ◌≤◌, ◌<◌, ◌∷◌, length, take, ◌∙◌, arith, length-set}
+use Rattle.std.proofs.lemmas.List.{take_more_set}
+use Rattle.line_text.proofs.Spaced.{first, next, last, ok_line}
 use Rattle.line_text.proofs.put_numbers.Goals as goal
 
-pub loop-i-init : goal.loop-i-init
-loop-i-init c =
-    let a = c.args in
-    let p = c.put_digits-at in
-    let d = p.ensures in
-    (omega arith, omega arith, omega arith, omega arith, refl, first a.count a.list (take p.result p.new.out) (omega arith) (omega arith) d.front)
+pub returns-in_default : goal.returns-in_default
+returns-in_default c =
+    let none : length c.args.numbers.now ≡ 0 = c.in_default.ensures.cases in
+    rw c.copy_from_slice.ensures.after (ok_line c.args.numbers.now c.args.out.now none c.requires.1)
 
-pub put_digits-at-requires-in-loop-i : goal.put_digits-at-requires-in-loop-i
-put_digits-at-requires-in-loop-i c = simp length-set (omega arith)
+pub loop-detail-init : goal.loop-detail-init
+loop-detail-init c =
+    let p = c.put_number-at.ensures in
+    let split : c.args.numbers.now ≡ c.in-Some.first.now ∷ c.in-Some.details.now = c.in-Some.ensures.cases.0 in
+    (omega (arith, p.short), p.same_length, rw split (first c.in-Some.first.now c.in-Some.details.now _ p.front))
 
-pub loop-i-preserved : goal.loop-i-preserved
-loop-i-preserved c =
-    let l = c.loop-i in
-    let a = c.args in
-    let p = c.put_digits-at-in-loop-i in
-    let d = p.ensures in
-    let size : length p.new.out ≡ length l.out = d.same_length ∙ length-set l.out l.at _ in
-    let long : length (take a.count a.list) ≡ a.count = length-take-le a.count a.list (omega arith) in
-    let here : get_or (take a.count a.list) l.i 0 ≡ get_or a.list l.i 0 = get_or-take a.count a.list l.i 0 c.loop-i-test.true in
-    let front : take p.result p.new.out ≡ (take l.at l.out ++ (32 ∷ [])) ++ decimal (get_or (take a.count a.list) l.i 0) = rw (here, ← stored l.out l.at 32 (omega arith)) d.front in
-    (omega arith, omega arith, omega arith, omega arith, size ∙ l.invariant.4, rw front (next (take a.count a.list) (take l.at l.out) l.i (omega arith) l.invariant.5))
+pub loop-detail-preserved : goal.loop-detail-preserved
+loop-detail-preserved c =
+    let l = c.loop-detail in
+    let p = c.put_number-at-in-loop-detail.ensures in
+    let room : l.at < length l.out = omega (arith, c.in-Some.ensures.cases.1, c.loop-detail-test.true, l.invariant.0, l.invariant.1) in (
+      omega (arith, p.short, l.invariant.0),
+      p.same_length ∙ length-set l.out l.at 32 ∙ l.invariant.1,
+      rw (p.front, take_more_set l.out l.at 32 room) (next _ c.in-Some.details.now (take l.at l.out) l.detail-index c.loop-detail-test.true l.invariant.2),
+    )
 
 pub returns : goal.returns
 returns c =
-    let l = c.loop-i in
-    let a = c.args in
-    let long : length (take a.count a.list) ≡ a.count = length-take-le a.count a.list (omega arith) in
+    let l = c.loop-detail in
+    let details = c.in-Some.details.now in
+    let few : length details + 1 ≤ 6 = omega (arith, c.in-Some.ensures.cases.1, c.requires.0) in
     record {
-      front = stored l.out l.at 10 (omega arith) ∙ last (take a.count a.list) (take l.at l.out) l.i (omega arith) l.invariant.5;
-      same_length = length-set l.out l.at 10 ∙ l.invariant.4 ∙ c.put_digits-at.ensures.same_length;
-      short = omega arith;
+      front = last _ details l.out l.at l.detail-index (omega (arith, few, l.invariant.0)) (omega (arith, c.loop-detail-test.false)) l.invariant.2;
+      same_length = length-set l.out l.at 10 ∙ l.invariant.1;
+      short = omega (arith, few, l.invariant.0);
     }

@@ -1,47 +1,28 @@
 -- `lines::lower_line`: the line of what `lower` answers, from the sheet in the output or from the numbers. Assumes nothing.
-use mathlib.Core.Path.{◌≡◌, sym, ap, ◌∙◌}
-use Prim.Native.Nat.{◌≤◌}
-use native.Mathlib.Omega.{arith}
-use lib.ListN.{length, take}
+use Rattle.std.proofs.Common.{◌≡◌, length, take, ap, ◌∙◌}
 use Rattle.definitions.specs.Result.{ok}
-use Rattle.definitions.specs.Answers.{length_numbers, lower_sheet, length_of}
+use Rattle.definitions.specs.Answers.{lower_sheet, padded}
 use Rattle.definitions.specs.Lines.{line_of, lowered_line}
-use Rattle.lower.specs.Whole.{answer_of}
-use Rattle.line_text.proofs.Zeros.{told}
-use Rattle.lines.proofs.Lowered.{accepted_fits, accepted_line_is, refused_line_is, wrote}
-use borrow.Author.Rules.{rules}
+use Rattle.lines.proofs.Lowered.{accepted_fits, accepted_line_is, refused_line_is}
 use Rattle.lines.proofs.lower_line.Goals as goal
 
-pub accepted_line-requires : goal.accepted_line-requires
-accepted_line-requires c =
-    let a = c.args in
-    let l = c.lower-answer in
-    let n = c.in-Accepted.n in
-    let room : length a.out.now ≡ 32768 = search rules in
-    let size : length a.text.now ≡ 98307 = search rules in
-    let low : n ≤ 32768 = accepted_fits a.sheet.now (length a.out.now) n (sym (ap answer_of c.in-Accepted.is) ∙ l.ensures.answered) in
-    let long : length l.new.out ≡ 32768 = search rules in
-    (omega arith, omega arith)
+pub shared_ref_as_front-accepted_line : goal.shared_ref_as_front-accepted_line
+shared_ref_as_front-accepted_line c = accepted_fits c.args.sheet.now _ c.in-Ok.length c.in-Ok.ensures.answered
 
-pub returns-in-Accepted : goal.returns-in-Accepted
-returns-in-Accepted c =
-    let a = c.args in
-    let l = c.lower-answer in
-    let n = c.in-Accepted.n in
-    let is : ok n ≡ length_of (lower_sheet a.sheet.now (length a.out.now)) = sym (ap answer_of c.in-Accepted.is) ∙ l.ensures.answered in
-    let room : length a.out.now ≡ 32768 = search rules in
-    let size : length a.text.now ≡ 98307 = search rules in
-    let low : n ≤ 32768 = accepted_fits a.sheet.now (length a.out.now) n is in
-    let w = wrote 98307 32768 (length a.text.now) (length a.out.now) a.sheet.now l.new.out c.accepted_line.new.text (lowered_line (ok (take n l.new.out))) c.accepted_line.result size room (accepted_line_is (lower_sheet a.sheet.now (length a.out.now)) l.new.out (length a.out.now) n (omega arith) is l.ensures.out_after) l.ensures.out_after c.accepted_line.ensures in
-    record { text_after = w.0; len = w.1.0; prefix = w.1.1.0; out_after = w.1.1.1 }
+accepted : (c : goal.After-accepted_line) → lowered_line (ok (take c.in-Ok.length c.lower.new.out)) ≡ lowered_line (lower_sheet c.args.sheet.now 32768)
+accepted c =
+    let s = c.args.sheet.now in
+    let e = c.in-Ok.ensures in
+    let answered = rw c.told-out at e.answered in
+    accepted_line_is (lower_sheet s 32768) c.lower.new.out 32768 c.in-Ok.length (accepted_fits s 32768 c.in-Ok.length answered) answered (rw c.told-out at e.out_after)
 
-pub returns : goal.returns
-returns c =
-    let a = c.args in
-    let l = c.lower-answer in
-    let n = c.lower_numbers-numbers in
-    let room : length a.out.now ≡ 32768 = search rules in
-    let size : length a.text.now ≡ 98307 = search rules in
-    let numbers : take n.result.count n.result.list ≡ length_numbers (answer_of l.result) = told n.result.count n.result.list _ n.ensures in
-    let w = wrote 98307 32768 (length a.text.now) (length a.out.now) a.sheet.now l.new.out c.put_line.new.out (line_of (take n.result.count n.result.list)) c.put_line.result size room (ap line_of numbers ∙ refused_line_is (lower_sheet a.sheet.now (length a.out.now)) l.result c.in_default.not-Accepted l.ensures.answered) l.ensures.out_after c.put_line.ensures in
-    record { text_after = w.0; len = w.1.0; prefix = w.1.1.0; out_after = w.1.1.1 }
+pub returns-in-Ok-clause-text_after : goal.returns-in-Ok-clause-text_after
+returns-in-Ok-clause-text_after c = rw c.told-text at c.accepted_line.ensures.is ∙ ap (padded 98307) (accepted c)
+
+pub returns-in-Ok-clause-len : goal.returns-in-Ok-clause-len
+returns-in-Ok-clause-len c = c.accepted_line.ensures.size ∙ ap length (accepted c)
+
+pub returns-in-Err-clause-text_after : goal.returns-in-Err-clause-text_after
+returns-in-Err-clause-text_after c =
+    let refused = refused_line_is (lower_sheet c.args.sheet.now 32768) _ (rw c.told-out at c.in-Err.ensures.answered) in
+    rw c.told-text at c.put_line.ensures.is ∙ ap (padded 98307) (ap line_of c.lower_numbers.ensures ∙ refused)

@@ -11,7 +11,7 @@ returns c =
     let a = c.args in
     let t = as_type a.ty in
     let kind = c.binary_kind.ensures t a.lhs.0 a.rhs.0 in
-    let code = c.type_code.ensures.0 in
+    let code = c.from.ensures.0 in
     pushes (Instruction.Binary (op_of a.op) t a.lhs.0 a.rhs.0) refl c.next_value-taken.ensures
     (rw (kind, code) at c.put_record-to.ensures)
     c.after_value.ensures

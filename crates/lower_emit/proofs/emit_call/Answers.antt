@@ -11,6 +11,6 @@ pub returns : goal.returns
 returns c =
     let a = c.args in
     let given = not_void (as_type a.ty) c.requires.1 in
-    let code = c.type_code.ensures.0 in
+    let code = c.from.ensures.0 in
     pushes (Instruction.Call a.function.0 (ids_of a.args a.n) (as_type a.ty)) given c.next_value-taken.ensures
     (rw (count_ids a.args a.n (omega arith), given, ← code) c.put_call-to.ensures) c.after_value.ensures

@@ -5,7 +5,7 @@ use Prim.Native.Nat.{ℕ, ◌+◌}
 use native.Mathlib.Omega.{arith}
 use Rattle.definitions.specs.Grammar.{Class, many, done}
 use Rattle.contract_nodes.proofs.Children.{bounds, size_fits}
-use Rattle.contract_nodes.proofs.Exprs.{call_at, int_at, ident_at, storage_at, access_at, binary_at}
+use Rattle.contract_nodes.proofs.ExprPlaces.{call_at, int_at, ident_at, storage_at, access_at, binary_at}
 use Rattle.lower_values.proofs.Answered.{same_after}
 use Rattle.lower_exprs.proofs.ArgSteps.{turn, goes_on, refuses, finishes}
 use Rattle.lower_exprs.proofs.CallSteps.{call_starts}

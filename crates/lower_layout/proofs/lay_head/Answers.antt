@@ -12,8 +12,8 @@ use Rattle.lower_layout.proofs.lay_head.Goals as goal
 pub read-requires : goal.read-requires
 read-requires c = let F = function_at_lem c.requires.0 in (omega (arith, F.fits, F.inside), omega arith)
 
-pub read_u16-requires : goal.read_u16-requires
-read_u16-requires c = let F = function_at_lem c.requires.0 in omega (arith, F.fits, F.inside)
+pub read_u16-name-requires : goal.read_u16-name-requires
+read_u16-name-requires c = let F = function_at_lem c.requires.0 in omega (arith, F.fits, F.inside)
 
 pub overflow_add-to-4 : goal.overflow_add-to-4
 overflow_add-to-4 c = omega (arith, c.requires.1.1, c.well_formed.1.1.1.1.1.1.0.0)
@@ -42,8 +42,8 @@ lay_locals-requires c =
 pub returns : goal.returns
 returns c =
     let a = c.args in
-    let t = c.type_code-code.ensures.1 ∙ ap write_type (c.own_return_type.ensures ∙ ap (λ (k : ℕ). own_return_type (opt_from k)) c.read_u16.ensures) in
-    head_put c.type_code-code.result a.size a.function.0 a.tables.now a.locals c.requires.0 c.read.ensures.0 t c.read-params.ensures.0
+    let t = c.from-code.ensures.1 ∙ ap write_type (c.own_return_type.ensures ∙ ap own_return_type (c.opt_name.ensures ∙ ap opt_from c.read_u16-name.ensures)) in
+    head_put c.from-code.result a.size a.function.0 a.tables.now a.locals c.requires.0 c.read.ensures.0 t c.read-params.ensures.0
     (wrote 4 a.size c.write.ensures refl
     then wrote 2 51 c.write-2.ensures (omega arith)
     then wrote 2 a.function.0 c.write-3.ensures (omega arith)

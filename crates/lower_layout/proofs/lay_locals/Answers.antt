@@ -15,7 +15,7 @@ pub loop-i-preserved : goal.loop-i-preserved
 loop-i-preserved c =
     let l = c.loop-i in
     let ts = c.args.tables.now in
-    let e = c.type_code-code.ensures.1 ∙ (ap write_type c.type_of_code.ensures ∙ (same_type _ _ ∙ ap (local_at ts) (zero-add l.i))) in
+    let e = c.from-code.ensures.1 ∙ (ap write_type c.from.ensures ∙ (same_type _ _ ∙ ap (local_at ts) (zero-add l.i))) in
     (omega arith, omega arith, search rules, run_next _ _ l.invariant.3 (put_as e (wrote 4 _ c.write-in-loop-i.ensures refl)))
 
 pub returns : goal.returns

@@ -14,7 +14,7 @@ loop-i-init c = (omega arith, omega arith, refl, run_none _ _ _)
 pub loop-i-preserved : goal.loop-i-preserved
 loop-i-preserved c =
     let l = c.loop-i in
-    let e = c.type_code-code.ensures.1 ∙ ap write_type (c.parse_ir_type.ensures ∙ ap parse_ir_type (c.new.ensures ∙ c.read_u16.ensures)) in
+    let e = c.from-code.ensures.1 ∙ ap write_type (c.parse_ir_type.ensures ∙ ap parse_ir_type (c.new.ensures ∙ c.read_u16.ensures)) in
     (omega arith, omega arith, search rules, run_next _ _ l.invariant.3 (wrote 2 l.i c.write-in-loop-i.ensures refl then put_as e (wrote 4 _ c.write-in-loop-i-2.ensures (omega arith))))
 
 pub returns : goal.returns

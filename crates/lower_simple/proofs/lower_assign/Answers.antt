@@ -1,7 +1,7 @@
 -- `lower_simple::lower_assign`: the expression, then the name. Assumes nothing.
 use native.Mathlib.Omega.{arith}
 use Rattle.contract_nodes.proofs.Children.{bounds}
-use Rattle.contract_nodes.proofs.Stmts.{assign_at}
+use Rattle.contract_nodes.proofs.StmtPlaces.{assign_at}
 use Rattle.lower_simple.proofs.SimpleSteps.{assign_refused, assign_unheld, assign_done}
 use Rattle.lower_simple.proofs.lower_assign.Goals as goal
 

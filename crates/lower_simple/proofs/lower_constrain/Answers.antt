@@ -1,6 +1,6 @@
 -- `lower_simple::lower_constrain`: the expression, then the record. Assumes nothing.
 use Rattle.contract_nodes.proofs.Children.{bounds}
-use Rattle.contract_nodes.proofs.Stmts.{constrain_at}
+use Rattle.contract_nodes.proofs.StmtPlaces.{constrain_at}
 use Rattle.lower_simple.proofs.SimpleSteps.{constrain_refused, constrain_done}
 use Rattle.lower_simple.proofs.lower_constrain.Goals as goal
 

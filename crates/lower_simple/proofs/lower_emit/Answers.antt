@@ -2,7 +2,7 @@
 use mathlib.Core.Path.{refl}
 use native.Mathlib.Omega.{arith}
 use Rattle.contract_nodes.proofs.Children.{bounds, size_fits}
-use Rattle.contract_nodes.proofs.Stmts.{emit_at}
+use Rattle.contract_nodes.proofs.StmtPlaces.{emit_at}
 use Rattle.lower_exprs.proofs.ArgSteps.{collects, turn, goes_on, refuses}
 use Rattle.lower_simple.proofs.SimpleSteps.{emit_to, emit_refused, emit_done}
 use Rattle.lower_simple.proofs.lower_emit.Goals as goal

@@ -1,6 +1,6 @@
 -- `lower_simple::lower_expr_stmt`: the expression, with a value or with none. Assumes nothing.
 use Rattle.contract_nodes.proofs.Children.{bounds}
-use Rattle.contract_nodes.proofs.Stmts.{expr_stmt_at}
+use Rattle.contract_nodes.proofs.StmtPlaces.{expr_stmt_at}
 use Rattle.lower_simple.proofs.SimpleSteps.{expr_refused, expr_done, expr_void}
 use Rattle.lower_simple.proofs.lower_expr_stmt.Goals as goal
 

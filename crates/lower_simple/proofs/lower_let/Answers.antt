@@ -1,7 +1,7 @@
 -- `lower_simple::lower_let`: the expression, then its local. Assumes nothing.
 use native.Mathlib.Omega.{arith}
 use Rattle.contract_nodes.proofs.Children.{bounds}
-use Rattle.contract_nodes.proofs.Stmts.{let_at}
+use Rattle.contract_nodes.proofs.StmtPlaces.{let_at}
 use Rattle.lower_exprs.proofs.ExprSteps.{gave_same}
 use Rattle.lower_flow.proofs.FlowSteps.{same_grown}
 use Rattle.lower_simple.proofs.SimpleSteps.{let_refused, let_full, let_done}

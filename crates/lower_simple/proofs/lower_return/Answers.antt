@@ -1,7 +1,7 @@
 -- `lower_simple::lower_return`: with no value, or with an expression's. Assumes nothing.
 use native.Mathlib.Omega.{arith}
 use Rattle.contract_nodes.proofs.Children.{bounds}
-use Rattle.contract_nodes.proofs.Stmts.{return_at}
+use Rattle.contract_nodes.proofs.StmtPlaces.{return_at}
 use Rattle.lower_exprs.proofs.ExprSteps.{gave_same}
 use Rattle.lower_flow.proofs.FlowSteps.{same_grown}
 use Rattle.lower_simple.proofs.SimpleSteps.{return_none_lem, return_refused, return_done}

@@ -4,7 +4,7 @@ use mathlib.Core.Path.{◌≡◌, refl, sym, ◌∙◌, subst}
 use native.Mathlib.Omega.{arith}
 use Rattle.contract_nodes.proofs.Children.{bounds, more, size_fits}
 use Rattle.contract_nodes.proofs.Parts.{Arm, arm_from}
-use Rattle.contract_nodes.proofs.Stmts.{Last, last_kind, mapping_at, if_at, while_at, for_at}
+use Rattle.contract_nodes.proofs.StmtPlaces.{Last, last_kind, mapping_at, if_at, while_at, for_at}
 use Rattle.lower_flow.proofs.FlowSteps.{grown_still, grown_on, blocks_told, bounds_told}
 use Rattle.lower_flow.specs.Flows.{StepGrown, SteppedGrown}
 use Rattle.lower_flow.specs.declared.Step.{Step}

@@ -1,9 +1,10 @@
--- `machine_steps::all_set`: what is left of the operands decides for all of them. Assumes nothing.
+-- `machine_steps::all_set`: what is left of the values decides for all of them. Assumes nothing.
+use Rattle.program_nodes.specs.Nodes.{ids_in}
 use Rattle.machine_steps.proofs.Operands.{AskLeft}
 use Rattle.machine_steps.proofs.all_set.Given as goal
 
-abbrev pub invariant-loop-left : goal.invariant-loop-left
-invariant-loop-left l = AskLeft l.s l.memory l.top l.from l.n l.p l.left
+abbrev pub invariant-loop-v : goal.invariant-loop-v
+invariant-loop-v l = AskLeft l.frame l.memory (ids_in l.values) (ids_in l.left)
 
-abbrev pub decreases-loop-left : goal.decreases-loop-left
-decreases-loop-left l = l.left
+abbrev pub decreases-loop-v : goal.decreases-loop-v
+decreases-loop-v l = l.left.left

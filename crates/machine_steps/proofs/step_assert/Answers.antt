@@ -1,11 +1,11 @@
 -- `machine_steps::step_assert`: its operand, then it passes. Assumes nothing.
-use mathlib.Core.Path.{ap, sym, ◌∙◌}
-use Rattle.machine_memory.specs.Cells.{word_of}
+use Rattle.machine_state.proofs.Asking.{asked_some, asked_none, halts_by}
 use Rattle.machine_steps.proofs.Doing.{assert_lacks, assert_passes}
 use Rattle.machine_steps.proofs.step_assert.Goals as goal
 
-pub returns-in-Set : goal.returns-in-Set
-returns-in-Set c = assert_passes _ c.read_u16-value.ensures (sym (ap word_of c.in-Set.is) ∙ c.value_at.ensures)
+pub returns-in_err-_word : goal.returns-in_err-_word
+returns-in_err-_word c =
+    assert_lacks (halts_by _ _ c.in_err-_word.field-0.0 _ c.from_residual.result c.ok_or.ensures.value c.ok_or.ensures.ok_part c.in_err-_word.was c.from_residual.ensures) c.value.ensures (asked_none c.ok_or.ensures.ok_part c.in_err-_word.was)
 
-pub returns-in-Unset : goal.returns-in-Unset
-returns-in-Unset c = assert_lacks _ c.read_u16-value.ensures (sym (ap word_of c.in-Unset.is) ∙ c.value_at.ensures)
+pub returns : goal.returns
+returns c = assert_passes c.value.ensures (asked_some c.ok_or.ensures.ok_part c.in_ok-_word.was)

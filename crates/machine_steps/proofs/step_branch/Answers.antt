@@ -1,14 +1,14 @@
 -- `machine_steps::step_branch`: the condition, then to one of the blocks. Assumes nothing.
-use mathlib.Core.Path.{ap, sym, ◌∙◌}
-use Rattle.machine_memory.specs.Cells.{word_of}
+use Rattle.machine_state.proofs.Asking.{asked_some, asked_none, halts_by}
 use Rattle.machine_steps.proofs.Doing.{branch_lacks, branch_else_lem, branch_then_lem}
 use Rattle.machine_steps.proofs.step_branch.Goals as goal
 
+pub returns-in_err-word : goal.returns-in_err-word
+returns-in_err-word c =
+    branch_lacks c.value.ensures _ _ _ (asked_none c.ok_or.ensures.ok_part c.in_err-word.was) (halts_by _ _ c.in_err-word.field-0.0 _ c.from_residual.result c.ok_or.ensures.value c.ok_or.ensures.ok_part c.in_err-word.was c.from_residual.ensures)
+
 pub returns-then-word-eq0 : goal.returns-then-word-eq0
-returns-then-word-eq0 c = branch_else_lem _ c.read_u16-value.ensures (sym (ap word_of c.in-Set.is) ∙ c.value_at.ensures) c.go_to.ensures c.if-word-eq0.true c.read_u16-other.ensures
+returns-then-word-eq0 c = branch_else_lem c.value.ensures (asked_some c.ok_or.ensures.ok_part c.in_ok-word.was) _ _ c.if-word-eq0.true c.go_to.ensures
 
-pub returns-else-word-eq0 : goal.returns-else-word-eq0
-returns-else-word-eq0 c = branch_then_lem _ c.read_u16-value.ensures (sym (ap word_of c.in-Set.is) ∙ c.value_at.ensures) c.go_to-in-Set.ensures c.if-word-eq0.false c.read_u16-target.ensures
-
-pub returns-in-Unset : goal.returns-in-Unset
-returns-in-Unset c = branch_lacks _ c.read_u16-value.ensures (sym (ap word_of c.in-Unset.is) ∙ c.value_at.ensures)
+pub returns : goal.returns
+returns c = branch_then_lem c.value.ensures (asked_some c.ok_or.ensures.ok_part c.in_ok-word.was) _ _ c.if-word-eq0.false c.go_to-2.ensures

@@ -3,4 +3,4 @@ use Rattle.machine_steps.proofs.Doing.{jump_goes}
 use Rattle.machine_steps.proofs.step_jump.Goals as goal
 
 pub returns : goal.returns
-returns c = jump_goes _ c.read_u16-target.ensures c.go_to.ensures
+returns c = jump_goes c.go_to.ensures

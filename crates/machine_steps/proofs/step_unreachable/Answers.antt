@@ -3,4 +3,4 @@ use Rattle.machine_steps.proofs.Doing.{unreachable_ends}
 use Rattle.machine_steps.proofs.step_unreachable.Goals as goal
 
 pub returns : goal.returns
-returns c = unreachable_ends _ _ _ _
+returns c = unreachable_ends

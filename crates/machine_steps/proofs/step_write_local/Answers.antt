@@ -1,17 +1,12 @@
 -- `machine_steps::step_write_local`: the local takes the value's word. Assumes nothing.
-use mathlib.Core.Path.{ap, sym, ◌∙◌}
-use native.Mathlib.Omega.{arith}
 use borrow.Author.Rules.{rules}
-use Rattle.machine_memory.specs.Cells.{word_of}
+use Rattle.machine_state.proofs.Asking.{asked_some, asked_none, halts_by}
 use Rattle.machine_steps.proofs.Doing.{write_local_does, write_local_lacks}
 use Rattle.machine_steps.proofs.step_write_local.Goals as goal
 
-pub write_local-requires : goal.write_local-requires
-write_local-requires c = (c.requires.0.placed, omega (arith, c.requires.1, c.read_u16-local.ensures))
+pub returns-in_err-word : goal.returns-in_err-word
+returns-in_err-word c =
+    write_local_lacks (halts_by _ _ c.in_err-word.field-0.0 _ c.from_residual.result c.ok_or.ensures.value c.ok_or.ensures.ok_part c.in_err-word.was c.from_residual.ensures) c.value.ensures (asked_none c.ok_or.ensures.ok_part c.in_err-word.was) _
 
-pub returns-in-Set : goal.returns-in-Set
-returns-in-Set c =
-    write_local_does c.read_u16-local.ensures c.read_u16-value.ensures (sym (ap word_of c.in-Set.is) ∙ c.value_at.ensures) (search rules) (omega (arith, c.requires.1, c.read_u16-local.ensures)) c.write_local.ensures
-
-pub returns-in-Unset : goal.returns-in-Unset
-returns-in-Unset c = write_local_lacks _ c.read_u16-value.ensures (sym (ap word_of c.in-Unset.is) ∙ c.value_at.ensures)
+pub returns : goal.returns
+returns c = write_local_does c.value.ensures (asked_some c.ok_or.ensures.ok_part c.in_ok-word.was) _ (search rules) c.requires.own c.write_local.ensures

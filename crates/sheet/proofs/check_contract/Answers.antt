@@ -1,20 +1,27 @@
 -- `sheet::check_contract`: the length, the form, then the limits. Assumes nothing.
-use Rattle.sheet.proofs.Contracts.{too_long, malformed, form_good, over_limit, within}
+use Rattle.std.proofs.Common.{◌∙◌, sym, arith}
+use Rattle.definitions.proofs.Results.{told}
+use Rattle.sheet.specs.declared.errors.ContractError.TheVariants as error
+use Rattle.sheet.specs.Forms.{form_of, limits_of}
+use Rattle.sheet.proofs.Contracts.{passed_on, malformed, over_limit, within}
 use Rattle.sheet.proofs.check_contract.Goals as goal
 
-pub returns-then-s-gt-MOST : goal.returns-then-s-gt-MOST
-returns-then-s-gt-MOST c = too_long c.args.s.now c.if-s-gt-MOST.true
+pub returns-in_err-contract_form : goal.returns-in_err-contract_form
+unfolding form_of
+returns-in_err-contract_form c =
+    passed_on c.from_residual.result (error.Malformed c.in_err-contract_form.field-0.0.0) c.from_residual.ensures ∙ malformed c.args.s.now (omega arith) (told form_of c.in_err-contract_form.was c.contract_form.ensures)
 
 pub contract_limits-requires : goal.contract_limits-requires
-contract_limits-requires c = form_good _ c.if-s-gt-MOST.false c.contract_form.ensures c.in-Good.is
+unfolding form_of
+contract_limits-requires c = sym (told form_of c.in_ok-contract_form.was c.contract_form.ensures)
 
-pub returns-in-Within : goal.returns-in-Within
-returns-in-Within c =
-    within _ c.if-s-gt-MOST.false c.contract_form.ensures c.in-Good.is c.contract_limits.ensures c.in-Within.is
+pub returns-in_err-contract_limits : goal.returns-in_err-contract_limits
+unfolding form_of limits_of
+returns-in_err-contract_limits c =
+    passed_on c.from_residual-in_err-contract_limits.result (error.OverLimit c.in_err-contract_limits.field-0.0.0) c.from_residual-in_err-contract_limits.ensures
+    ∙ over_limit c.args.s.now (omega arith) (told form_of c.in_ok-contract_form.was c.contract_form.ensures) (told limits_of c.in_err-contract_limits.was c.contract_limits.ensures)
 
-pub returns-in-Over : goal.returns-in-Over
-returns-in-Over c =
-    over_limit _ c.if-s-gt-MOST.false c.contract_form.ensures c.in-Good.is c.contract_limits.ensures c.in-Over.is
-
-pub returns-in-Bad : goal.returns-in-Bad
-returns-in-Bad c = malformed _ c.if-s-gt-MOST.false c.contract_form.ensures c.in-Bad.is
+pub returns : goal.returns
+unfolding form_of limits_of
+returns c =
+    within c.args.s.now (omega arith) (told form_of c.in_ok-contract_form.was c.contract_form.ensures) (told limits_of c.in_ok-contract_limits.was c.contract_limits.ensures)

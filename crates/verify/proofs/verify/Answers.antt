@@ -1,26 +1,22 @@
 -- `verify::verify`: the length, the form, then the functions. Assumes nothing.
 use native.Mathlib.Omega.{arith}
-use Rattle.sheet.specs.Forms.{form_of}
-use Rattle.verify.proofs.Whole.{too_long, malformed, functions_there, accepted, refused}
+use Rattle.std.proofs.lemmas.Result.{err_from_is_err_and}
+use Rattle.verify.proofs.Whole.{too_long, malformed, accepted, refused}
 use Rattle.verify.proofs.verify.Goals as goal
 
 pub returns-then-sheet-gt-MOST : goal.returns-then-sheet-gt-MOST
 returns-then-sheet-gt-MOST c = too_long c.args.sheet.now c.if-sheet-gt-MOST.true
 
-pub verify_program-requires : goal.verify_program-requires
-unfolding form_of
-verify_program-requires c = functions_there c.args.sheet.now (omega (arith, c.if-sheet-gt-MOST.false)) (rw c.in-Good.is at c.program_form.ensures)
+pub returns-in_err-program : goal.returns-in_err-program
+returns-in_err-program c =
+    let p = err_from_is_err_and c.from_residual.result c.from_residual.ensures.1 in
+    rw (p.1, p.2) (malformed c.args.sheet.now (omega (arith, c.if-sheet-gt-MOST.false)) _ c.in_err-program.ensures.is)
 
-pub returns-in-Passed : goal.returns-in-Passed
-unfolding form_of
-returns-in-Passed c =
-    accepted c.args.sheet.now (omega (arith, c.if-sheet-gt-MOST.false)) (rw c.in-Good.is at c.program_form.ensures) (rw c.in-Passed.is at c.verify_program.ensures)
+pub returns-in_err-verify_program : goal.returns-in_err-verify_program
+returns-in_err-verify_program c =
+    let r = c.from_residual-in_err-verify_program in
+    let p = err_from_is_err_and r.result r.ensures.1 in
+    rw (p.1, p.2) (refused c.args.sheet.now (omega (arith, c.if-sheet-gt-MOST.false)) c.in_ok-program.ensures.is _ c.in_ok-program.ensures.same_sheet c.in_err-verify_program.ensures)
 
-pub returns-in-Failed : goal.returns-in-Failed
-unfolding form_of
-returns-in-Failed c =
-    refused c.args.sheet.now (omega (arith, c.if-sheet-gt-MOST.false)) (rw c.in-Good.is at c.program_form.ensures) _ (rw c.in-Failed.is at c.verify_program.ensures)
-
-pub returns-in-Bad : goal.returns-in-Bad
-unfolding form_of
-returns-in-Bad c = malformed c.args.sheet.now (omega (arith, c.if-sheet-gt-MOST.false)) _ (rw c.in-Bad.is at c.program_form.ensures)
+pub returns : goal.returns
+returns c = accepted c.args.sheet.now (omega (arith, c.if-sheet-gt-MOST.false)) c.in_ok-program.ensures.is c.in_ok-program.ensures.same_sheet c.in_ok-verify_program.ensures

@@ -1,29 +1,25 @@
--- `verify::verify_terminator`: by the kind. Assumes nothing.
-use mathlib.Core.Path.{refl}
-use native.Mathlib.Omega.{arith}
-use Rattle.verify.proofs.Instrs.{term_room, by_term, jump, branch, return, unreachable}
+-- `verify::verify_terminator`: by what the terminator is. Assumes nothing.
+use Rattle.verify_state.proofs.Steps.{handed_on}
+use Rattle.verify.proofs.Instrs.{unreachable, condition_failed, then_failed, branch, jump, return}
 use Rattle.verify.proofs.verify_terminator.Goals as goal
 
-pub overflow_add-q : goal.overflow_add-q
-overflow_add-q m = omega (arith, term_room 90 2 refl m.requires.1 m.in-90.is)
+pub returns-in-Jump : goal.returns-in-Jump
+returns-in-Jump c = jump c.args.f c.in-Jump.is c.check_block.ensures
 
-pub check_block-requires : goal.check_block-requires
-check_block-requires m = (m.requires.0, omega (arith, term_room 90 2 refl m.requires.1 m.in-90.is))
+pub returns-in_err-check_condition-in-Branch : goal.returns-in_err-check_condition-in-Branch
+returns-in_err-check_condition-in-Branch c =
+    rw (handed_on c.from_residual.result c.in_err-check_condition-in-Branch.field-0.0 c.from_residual.ensures) (condition_failed c.args.f c.in-Branch.is c.in_err-check_condition-in-Branch.ensures)
 
-pub verify_branch-requires : goal.verify_branch-requires
-verify_branch-requires m = (m.requires.0, term_room 91 6 refl m.requires.1 m.in-91.is)
+pub returns-in_err-check_block-in-Branch : goal.returns-in_err-check_block-in-Branch
+returns-in_err-check_block-in-Branch c =
+    let r = c.from_residual-in_err-check_block-in-Branch in
+    rw (handed_on r.result c.in_err-check_block-in-Branch.field-0.0 r.ensures) (then_failed c.args.f c.in-Branch.is c.in_ok-check_condition-in-Branch.ensures c.in_err-check_block-in-Branch.ensures)
 
-pub verify_return-requires : goal.verify_return-requires
-verify_return-requires m = (m.requires.0, omega (arith, term_room 92 2 refl m.requires.1 m.in-92.is))
+pub returns-in_ok-check_block-in-Branch : goal.returns-in_ok-check_block-in-Branch
+returns-in_ok-check_block-in-Branch c = branch c.args.f c.in-Branch.is c.in_ok-check_condition-in-Branch.ensures c.in_ok-check_block-in-Branch.ensures c.check_block-in-Branch-2.ensures
 
-pub returns-in-90 : goal.returns-in-90
-returns-in-90 c = let a = c.args in by_term a.s.now a.f a.q c.in-90.is (jump a.s.now a.f a.q c.check_block.ensures)
+pub returns-in-Return : goal.returns-in-Return
+returns-in-Return c = return c.args.f c.in-Return.is c.check_return.ensures
 
-pub returns-in-91 : goal.returns-in-91
-returns-in-91 c = let a = c.args in by_term a.s.now a.f a.q c.in-91.is (branch a.s.now a.f a.q c.verify_branch.ensures)
-
-pub returns-in-92 : goal.returns-in-92
-returns-in-92 c = let a = c.args in by_term a.s.now a.f a.q c.in-92.is (return a.s.now a.f a.q c.verify_return.ensures)
-
-pub returns-in_default : goal.returns-in_default
-returns-in_default c = let a = c.args in let m = c.in_default.in_default-own.rest in unreachable a.s.now a.f a.q a.kind m.0.0.1 m.0.1 m.1
+pub returns-in-Unreachable : goal.returns-in-Unreachable
+returns-in-Unreachable c = unreachable c.args.f c.in-Unreachable.is

@@ -1,15 +1,14 @@
--- `verify_define::define_blocks`: what is left of the blocks from b on, with the table so far. Assumes nothing.
+-- `verify_define::define_blocks`: what is left says what the whole says. Assumes nothing.
 use Prim.Native.Nat.{◌-◌}
 use Rattle.definitions.specs.Records.{read_records}
 use Rattle.definitions.specs.Verify.{define_blocks}
-use Rattle.program_nodes.specs.Positions.{blocks_here, BlocksFrom}
 use Rattle.program_nodes.specs.Definitions.{blocks_definitions}
+use Rattle.program_nodes.specs.Nodes.{ir_of, blocks_in, blocks_definitions_in}
 use Rattle.verify_define.proofs.Firsts.{Rest}
 use Rattle.verify_define.proofs.define_blocks.Given as goal
 
-abbrev pub invariant-loop-b : goal.invariant-loop-b
-invariant-loop-b l =
-    BlocksFrom l.s l.b l.f.stop × Rest l.s l.f (blocks_definitions (read_records l.s l.f.first l.f.stop)) (define_blocks (blocks_here l.s l.f.first l.f.stop)) (blocks_definitions (read_records l.s l.b l.f.stop)) (define_blocks (blocks_here l.s l.b l.f.stop))
+abbrev pub invariant-loop-block : goal.invariant-loop-block
+invariant-loop-block l = Rest l.f (blocks_definitions (read_records l.f.program.sheet.now l.f.first l.f.stop)) (define_blocks (ir_of l.f).blocks) (blocks_definitions_in l.blocks) (define_blocks (blocks_in l.blocks))
 
-abbrev pub decreases-loop-b : goal.decreases-loop-b
-decreases-loop-b l = l.f.stop - l.b
+abbrev pub decreases-loop-block : goal.decreases-loop-block
+decreases-loop-block l = l.blocks.end - l.blocks.at

@@ -1,14 +1,11 @@
--- `verify_define::define_params`: what is left of the parameters, with the table so far. Assumes nothing.
-use Prim.Native.Nat.{◌+◌, ◌*◌, ◌≤◌}
+-- `verify_define::define_params`: what is left says what the whole says. Assumes nothing.
 use Rattle.definitions.specs.Verify.{define_params}
-use Rattle.program_nodes.specs.Positions.{params_here}
-use Rattle.program_nodes.specs.Definitions.{param_definitions, params_of}
-use Rattle.program_nodes.proofs.Definitions.{params_from}
+use Rattle.program_nodes.specs.Nodes.{ir_of, params_in, params_of, param_definitions_in}
 use Rattle.verify_define.proofs.Firsts.{Rest}
 use Rattle.verify_define.proofs.define_params.Given as goal
 
-abbrev pub invariant-loop-left : goal.invariant-loop-left
-invariant-loop-left l = Rest l.s l.f (params_of l.s l.f) (define_params (params_here l.s l.f.at)) (param_definitions l.p (params_from l.left l.s l.p)) (define_params (params_from l.left l.s l.p)) × (l.p + 6 * l.left ≤ l.f.first)
+abbrev pub invariant-loop-param : goal.invariant-loop-param
+invariant-loop-param l = Rest l.f (params_of l.f) (define_params (ir_of l.f).params) (param_definitions_in l.params) (define_params (params_in l.params))
 
-abbrev pub decreases-loop-left : goal.decreases-loop-left
-decreases-loop-left l = l.left
+abbrev pub decreases-loop-param : goal.decreases-loop-param
+decreases-loop-param l = l.params.left

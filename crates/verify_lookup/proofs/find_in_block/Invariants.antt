@@ -1,13 +1,12 @@
--- `verify_lookup::find_in_block`: the search goes on from the record at q. Assumes nothing.
+-- `verify_lookup::find_in_block`: what is left of the block is searched. Assumes nothing.
 use mathlib.Core.Path.{◌≡◌}
 use Prim.Native.Nat.{◌-◌}
-use Rattle.definitions.specs.Records.{read_records}
-use Rattle.program_nodes.specs.Positions.{BlockFrom}
-use Rattle.program_nodes.specs.Definitions.{block_definitions, first_place}
+use Rattle.program_nodes.specs.Definitions.{first_definition}
+use Rattle.program_nodes.specs.Nodes.{block_definitions_in, block_definitions_of}
 use Rattle.verify_lookup.proofs.find_in_block.Given as goal
 
-abbrev pub invariant-loop-q : goal.invariant-loop-q
-invariant-loop-q l = BlockFrom l.s l.q l.end × (first_place l.v.0 (block_definitions (read_records l.s l.q l.end)) ≡ first_place l.v.0 (block_definitions (read_records l.s l.from l.end)))
+abbrev pub invariant-loop-record : goal.invariant-loop-record
+invariant-loop-record l = first_definition l.v.0 (block_definitions_in l.records) ≡ first_definition l.v.0 (block_definitions_of l.block)
 
-abbrev pub decreases-loop-q : goal.decreases-loop-q
-decreases-loop-q l = l.end - l.q
+abbrev pub decreases-loop-record : goal.decreases-loop-record
+decreases-loop-record l = l.records.end - l.records.at

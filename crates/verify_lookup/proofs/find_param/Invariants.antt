@@ -1,13 +1,11 @@
--- `verify_lookup::find_param`: what is left of the parameters is searched from p on. Assumes nothing.
+-- `verify_lookup::find_param`: what is left of the parameters is searched. Assumes nothing.
 use mathlib.Core.Path.{◌≡◌}
-use Prim.Native.Nat.{◌+◌, ◌*◌, ◌≤◌}
-use lib.ListN.{length}
-use Rattle.program_nodes.specs.Definitions.{param_definitions, first_place}
-use Rattle.program_nodes.proofs.Definitions.{params_from}
+use Rattle.program_nodes.specs.Definitions.{first_definition}
+use Rattle.program_nodes.specs.Nodes.{param_definitions_in, params_of}
 use Rattle.verify_lookup.proofs.find_param.Given as goal
 
-abbrev pub invariant-loop-left : goal.invariant-loop-left
-invariant-loop-left l = (first_place l.v.0 (param_definitions l.p (params_from l.left l.s l.p)) ≡ first_place l.v.0 (param_definitions l.initial.p (params_from l.initial.left l.s l.initial.p))) × (l.p + 6 * l.left ≤ length l.s)
+abbrev pub invariant-loop-param : goal.invariant-loop-param
+invariant-loop-param l = first_definition l.v.0 (param_definitions_in l.params) ≡ first_definition l.v.0 (params_of l.f)
 
-abbrev pub decreases-loop-left : goal.decreases-loop-left
-decreases-loop-left l = l.left
+abbrev pub decreases-loop-param : goal.decreases-loop-param
+decreases-loop-param l = l.params.left

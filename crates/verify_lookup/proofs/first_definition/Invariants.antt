@@ -1,13 +1,12 @@
--- `verify_lookup::first_definition`: the parameters, then the search goes on from the block at b. Assumes nothing.
+-- `verify_lookup::first_definition`: the parameters are not it, and what is left of the blocks is searched. Assumes nothing.
 use mathlib.Core.Path.{◌≡◌}
-use Prim.Native.Nat.{◌-◌, ◌<◌}
-use Rattle.definitions.specs.Records.{read_records}
-use Rattle.program_nodes.specs.Positions.{BlocksFrom}
-use Rattle.program_nodes.specs.Definitions.{blocks_definitions, definitions_of, first_place}
+use Prim.Native.Nat.{◌-◌}
+use Rattle.program_nodes.specs.Definitions.{first_definition}
+use Rattle.program_nodes.specs.Nodes.{blocks_definitions_in, definitions_of}
 use Rattle.verify_lookup.proofs.first_definition.Given as goal
 
-abbrev pub invariant-loop-b : goal.invariant-loop-b
-invariant-loop-b l = BlocksFrom l.s l.b l.f.stop × (l.f.at < l.b) × (first_place l.v.0 (blocks_definitions (read_records l.s l.b l.f.stop)) ≡ first_place l.v.0 (definitions_of l.s l.f))
+abbrev pub invariant-loop-block : goal.invariant-loop-block
+invariant-loop-block l = first_definition l.v.0 (blocks_definitions_in l.blocks) ≡ first_definition l.v.0 (definitions_of l.f)
 
-abbrev pub decreases-loop-b : goal.decreases-loop-b
-decreases-loop-b l = l.f.stop - l.b
+abbrev pub decreases-loop-block : goal.decreases-loop-block
+decreases-loop-block l = l.blocks.end - l.blocks.at

@@ -1,9 +1,8 @@
 -- `verify_lookup::has_block`: whether one is found. Assumes nothing.
-use Rattle.verify_lookup.proofs.Blocks.{id_lacks, id_there}
+use mathlib.Core.Path.{◌∙◌}
+use Rattle.program_nodes.specs.Nodes.{ir_of, block_in}
+use Rattle.verify_lookup.proofs.Searches.{has_block_lem}
 use Rattle.verify_lookup.proofs.has_block.Goals as goal
 
-pub returns-then-p-eq0 : goal.returns-then-p-eq0
-returns-then-p-eq0 c = id_lacks c.find_block-p.ensures c.if-p-eq0.true
-
 pub returns : goal.returns
-returns c = id_there c.find_block-p.ensures c.if-p-eq0.false
+returns c = c.is_some.ensures ∙ has_block_lem block_in c.find_block.result c.args.b.0 (ir_of c.args.f).blocks c.find_block.ensures.is

@@ -1,9 +1,8 @@
 -- `verify_lookup::has_function`: whether one is found. Assumes nothing.
-use Rattle.verify_lookup.proofs.Functions.{id_lacks, id_there}
+use mathlib.Core.Path.{◌∙◌}
+use Rattle.program_nodes.specs.Nodes.{ir_of, functions_of}
+use Rattle.verify_lookup.proofs.Searches.{has_function_lem}
 use Rattle.verify_lookup.proofs.has_function.Goals as goal
 
-pub returns-then-p-eq0 : goal.returns-then-p-eq0
-returns-then-p-eq0 c = id_lacks c.find_function-p.ensures c.if-p-eq0.true
-
 pub returns : goal.returns
-returns c = id_there c.find_function-p.ensures c.if-p-eq0.false
+returns c = c.is_some.ensures ∙ has_function_lem ir_of c.find_function.result c.args.g.0 (functions_of c.args.program) c.find_function.ensures.is

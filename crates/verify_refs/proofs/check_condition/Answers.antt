@@ -1,13 +1,14 @@
--- `verify_refs::check_condition`: the value is not defined, or no Bool, or both. Assumes nothing.
-use native.Mathlib.Omega.{arith}
-use Rattle.verify_refs.proofs.Operands.{condition_undefined, condition_bad, condition_good}
+-- `verify_refs::check_condition`: the value, and its type. Assumes nothing.
+use mathlib.Core.Path.{sym, ◌∙◌}
+use Rattle.verify_state.proofs.Steps.{handed_on}
+use Rattle.verify_refs.proofs.Types.{condition_failed, condition_other, condition_fits}
 use Rattle.verify_refs.proofs.check_condition.Goals as goal
 
-pub returns-then-t-eq-NO_TYPE : goal.returns-then-t-eq-NO_TYPE
-returns-then-t-eq-NO_TYPE c = condition_undefined c.requires.0 c.args.q _ c.read_u16.ensures c.defined_type-t.ensures c.if-t-eq-NO_TYPE.true
+pub returns-in_err-ty : goal.returns-in_err-ty
+returns-in_err-ty c = rw (handed_on c.from_residual.result c.in_err-ty.field-0.0 c.from_residual.ensures) (condition_failed c.in_err-ty.ensures)
 
-pub returns-then-t-ne-BOOL_CODE : goal.returns-then-t-ne-BOOL_CODE
-returns-then-t-ne-BOOL_CODE c = rw c.type_of_code-ty.ensures (condition_bad c.requires.0 c.args.q _ c.read_u16.ensures c.defined_type-t.ensures c.if-t-eq-NO_TYPE.false c.if-t-ne-BOOL_CODE.true)
+pub returns-then-not-same_type : goal.returns-then-not-same_type
+returns-then-not-same_type c = condition_other c.in_ok-ty.ensures (sym c.same_type.ensures ∙ c.if-not-same_type.true)
 
 pub returns : goal.returns
-returns c = condition_good c.requires.0 c.args.q _ c.read_u16.ensures c.defined_type-t.ensures c.if-t-eq-NO_TYPE.false (omega (arith, c.if-t-ne-BOOL_CODE.false))
+returns c = condition_fits c.in_ok-ty.ensures (sym c.same_type.ensures ∙ c.if-not-same_type.false)

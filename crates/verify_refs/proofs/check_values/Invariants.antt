@@ -1,13 +1,11 @@
--- `verify_refs::check_values`: what is left of the ids decides for all of them. Assumes nothing.
-use Prim.Native.Nat.{◌+◌, ◌*◌, ◌≤◌}
-use lib.ListN.{length}
+-- `verify_refs::check_values`: what is left says what the whole says. Assumes nothing.
 use Rattle.definitions.specs.Verify.{check_value_refs}
-use Rattle.program_nodes.specs.Positions.{ids_here}
+use Rattle.program_nodes.specs.Nodes.{ids_in}
 use Rattle.verify_state.proofs.Steps.{Leads}
 use Rattle.verify_refs.proofs.check_values.Given as goal
 
-abbrev pub invariant-loop-left : goal.invariant-loop-left
-invariant-loop-left l = (l.p + 2 * l.left ≤ length l.s) × Leads l.s l.f (check_value_refs (ids_here l.n l.s l.from)) (check_value_refs (ids_here l.left l.s l.p))
+abbrev pub invariant-loop-v : goal.invariant-loop-v
+invariant-loop-v l = Leads l.f (check_value_refs (ids_in l.values)) (check_value_refs (ids_in l.left))
 
-abbrev pub decreases-loop-left : goal.decreases-loop-left
-decreases-loop-left l = l.left
+abbrev pub decreases-loop-v : goal.decreases-loop-v
+decreases-loop-v l = l.left.left

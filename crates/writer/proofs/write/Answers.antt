@@ -1,18 +1,18 @@
--- `writer::write`: what is left of the run is stored from `to` on. Assumes nothing.
-use mathlib.Core.Path.{◌≡◌, refl, sym, ◌∙◌}
+-- `writer::write`: what is left of the run is stored from `at + i` on. Assumes nothing.
+use mathlib.Core.Path.{◌≡◌, sym, ◌∙◌}
+use Prim.Native.Nat.{◌-◌, ◌+◌}
 use native.Mathlib.Omega.{arith}
-use borrow.Author.Rules.{rules}
-use lib.ListN.{length-set}
 use Rattle.definitions.specs.Fields.{bytes}
 use Rattle.writer.proofs.Writing.{bytes_front}
 use Rattle.writer.proofs.write.Goals as goal
 
-pub loop-left-init : goal.loop-left-init
-loop-left-init c = (refl, refl, search rules)
-
-pub loop-left-preserved : goal.loop-left-preserved
-loop-left-preserved c = let l = c.loop-left in (sym (bytes_front l.out l.to l.left l.rest c.loop-left-test.true) ∙ l.invariant.0, simp length-set l.invariant.1, simp length-set (omega arith))
+pub loop-i-preserved : goal.loop-i-preserved
+loop-i-preserved c =
+    let l = c.loop-i in
+    let place : c.args.at + (l.i + 1) ≡ c.args.at + l.i + 1 = omega arith in
+    let left : c.args.n - (l.i + 1) ≡ c.args.n - l.i - 1 = omega arith in
+    rw (place, left) (sym (bytes_front l.out (c.args.at + l.i) (c.args.n - l.i) l.rest (omega arith)) ∙ l.invariant)
 
 pub returns : goal.returns
 unfolding bytes
-returns c = let z : c.loop-left.left ≡ 0 = omega arith in rw z at c.loop-left.invariant.0
+returns c = let none : c.args.n - c.loop-i.i ≡ 0 = omega arith in rw none at c.loop-i.invariant

@@ -1,54 +1,24 @@
 -- `contract_lookup::symbols::field_position`: the search goes on from the field at `field`. Assumes nothing.
 use mathlib.Core.Path.{ap, sym, ◌∙◌}
 use Prim.Native.Nat.{ℕ, ◌+◌}
-use native.Mathlib.Omega.{arith}
-use Rattle.contract_nodes.proofs.Tops.{struct_at}
-use Rattle.contract_lookup.proofs.Firsts.{begun, over, fits, hit, miss}
+use Rattle.contract_nodes.proofs.Standing.{ready}
+use Rattle.contract_nodes.proofs.Children.{size_fits}
+use Rattle.contract_lookup.proofs.Firsts.{begun, over, hit, miss}
 use Rattle.contract_lookup.proofs.symbols.field_position.Goals as goal
 
 pub read-requires : goal.read-requires
-read-requires c =
-    let S = (struct_at c.requires.1.1).1 in
-    (omega (arith, S.ends, S.inside), omega arith)
-
-pub overflow_add-stop : goal.overflow_add-stop
-overflow_add-stop c =
-    let S = (struct_at c.requires.1.1).1 in
-    omega (arith, S.inside, c.read.ensures.0)
-
-pub overflow_add-field : goal.overflow_add-field
-overflow_add-field c = let S = (struct_at c.requires.1.1).1 in omega (arith, S.ends, S.inside)
+read-requires c = size_fits (ready {d = 39} c.args.of.ready)
 
 pub loop-field-init : goal.loop-field-init
-loop-field-init c = begun c.args.name.0 _ c.requires.1.1 (ap (λ (x : ℕ). c.args.at + x) c.read.ensures.0)
-
-pub read_u16-requires : goal.read_u16-requires
-read_u16-requires c =
-    let S = c.loop-field.invariant in
-    omega (arith, S.inside, fits S c.loop-field-test.true)
+loop-field-init c = begun c.args.name.0 _ (ready {d = 39} c.args.of.ready) (ap (λ (x : ℕ). c.args.of.at + x) c.read.ensures.0)
 
 pub returns-then-read_u16-name : goal.returns-then-read_u16-name
 returns-then-read_u16-name c =
-    let S = c.loop-field.invariant in
-    hit S c.loop-field-test.true (sym c.read_u16.ensures ∙ c.if-read_u16-name.true)
-
-pub overflow_add-position : goal.overflow_add-position
-overflow_add-position c = let S = c.loop-field.invariant in omega (arith, S.few)
-
-pub overflow_add-field-in-loop-field : goal.overflow_add-field-in-loop-field
-overflow_add-field-in-loop-field c =
-    let S = c.loop-field.invariant in
-    omega (arith, S.inside, fits S c.loop-field-test.true)
-
-pub loop-field-smaller : goal.loop-field-smaller
-loop-field-smaller c =
-    let S = c.loop-field.invariant in
-    omega (arith, fits S c.loop-field-test.true)
+    hit c.loop-field.invariant c.loop-field-test.true (sym c.read_u16.ensures ∙ c.if-read_u16-name.true)
 
 pub loop-field-preserved : goal.loop-field-preserved
 loop-field-preserved c =
-    let S = c.loop-field.invariant in
-    miss S c.loop-field-test.true (λ z. c.if-read_u16-name.false (c.read_u16.ensures ∙ z))
+    miss c.loop-field.invariant c.loop-field-test.true (λ z. c.if-read_u16-name.false (c.read_u16.ensures ∙ z))
 
 pub returns : goal.returns
 returns c = over c.loop-field.invariant c.loop-field-test.false

@@ -1,81 +1,49 @@
 -- `contract_lookup::symbols::last_named`: the walk goes on from the record at `at`. Assumes nothing.
-use mathlib.Core.Path.{ap, sym, ◌∙◌}
+use mathlib.Core.Path.{refl, sym, ◌∙◌}
 use native.Mathlib.Omega.{arith}
-use Rattle.contract_lookup.specs.Answers.{found_of}
-use Rattle.contract_lookup.proofs.Lasts.{begun, walked, stopped, top_at, other_kind, has_name, has_not, this_kind, coded, nothing_found, or_earlier_is, moved}
+use Rattle.format.specs.Kinds.{item_number}
+use Rattle.std.specs.Prelude.{None}
+use Rattle.contract_lookup.proofs.Lasts.{at_place, begun, walked, stopped, top_at, other_kind, has_name, has_not, this_kind, moved}
 use Rattle.contract_lookup.proofs.symbols.last_named.Goals as goal
-use Rattle.contract_lookup.proofs.symbols.last_named.Goals.{then-here-kind, else-here-kind, then-read_u16-name, else-read_u16-name}
+use Rattle.contract_lookup.proofs.symbols.last_named.Goals.{then-here-wanted, else-here-wanted, then-read_u16-name, else-read_u16-name}
 
 pub loop-at-init : goal.loop-at-init
-loop-at-init c = rw nothing_found (begun c.args.s.now c.args.kind c.args.name.0 c.requires.0)
+loop-at-init c = begun c.args.contract.sheet.now (item_number c.args.kind) c.args.name.0 c.args.contract.passed
 
-pub overflow_add-at : goal.overflow_add-at
-overflow_add-at c = let P = top_at c.loop-at.invariant c.loop-at-test.true in omega (arith, P.long, P.inside)
+pub returns-then-wanted-here-clause-is : goal.returns-then-wanted-here-clause-is
+returns-then-wanted-here-clause-is c = (stopped c.loop-at.invariant c.loop-at-test.true (omega (arith, c.read_u16-here.ensures, c.from-wanted.ensures, c.if-wanted-here.true))).0
 
-pub read-here-requires : goal.read-here-requires
-read-here-requires c =
-    let P = top_at c.loop-at.invariant c.loop-at-test.true in
-    (omega (arith, P.long, P.inside), omega arith)
-
-pub returns-then-kind-here : goal.returns-then-kind-here
-returns-then-kind-here c =
-    let W = stopped c.loop-at.invariant c.loop-at-test.true (omega (arith, c.read-here.ensures.0, c.if-kind-here.true)) in
-    rw c.decoded.ensures W
-
-pub overflow_add-at-then-here-kind : goal.overflow_add-at-then-here-kind
-overflow_add-at-then-here-kind c =
-    let P = top_at c.loop-at.invariant c.loop-at-test.true in
-    omega (arith, P.long, P.inside)
+pub returns-then-wanted-here-clause-stands : goal.returns-then-wanted-here-clause-stands
+returns-then-wanted-here-clause-stands c = (stopped c.loop-at.invariant c.loop-at-test.true (omega (arith, c.read_u16-here.ensures, c.from-wanted.ensures, c.if-wanted-here.true))).1
 
 pub read_u16-requires : goal.read_u16-requires
 read_u16-requires c =
     let P = top_at c.loop-at.invariant c.loop-at-test.true in
     omega (arith, P.long, P.inside)
 
-pub overflow_mul-this : goal.overflow_mul-this
-overflow_mul-this c = let C = c.requires.0.short in omega (arith, C, c.loop-at-test.true)
-
-pub overflow_add-this : goal.overflow_add-this
-overflow_add-this c =
-    let C = c.requires.0.short in
-    let W = c.loop-at.invariant in
-    omega (arith, C, W.low, c.loop-at-test.true)
-
-pub overflow_add-position : goal.overflow_add-position
-overflow_add-position c =
-    let P = top_at c.loop-at.invariant c.loop-at-test.true in
-    omega (arith, c.loop-at.invariant.low, P.long, P.inside)
-
 pub past-at-requires : goal.past-at-requires
 past-at-requires c =
     let P = top_at c.loop-at.invariant c.loop-at-test.true in
-    let r = c.read-here.ensures.0 in
-    (r, P.ready (sym r))
-
-pub loop-at-smaller : goal.loop-at-smaller
-loop-at-smaller c =
-    let P = top_at c.loop-at.invariant c.loop-at-test.true in
-    omega (arith, c.past-at.ensures, P.long, P.inside)
+    (c.read_u16-here.ensures, P.ready (sym c.read_u16-here.ensures))
 
 pub loop-at-preserved : goal.loop-at-preserved
 loop-at-preserved c =
     let W = c.loop-at.invariant in
     let l = c.loop-at-test.true in
-    let r = c.read-here.ensures.0 in
-    let C = c.requires.0.short in
+    let r = c.read_u16-here.ensures in
     rw c.past-at.ensures
-    (elim c.if-here-kind.branch [
-      | then-here-kind w ↦
-          let e = sym r ∙ w.if-here-kind.true in
-          let this = w.if-read_u16-name.this in
-          moved (ap found_of w.found-is ∙ or_earlier_is this c.loop-at.found w.or_earlier-found.ensures) w.position-is
-          (this_kind W l (found_of this) e
-          (elim w.if-read_u16-name.branch [
-            | then-read_u16-name v ↦ has_name W l e (sym w.read_u16.ensures ∙ v.if-read_u16-name.true) (ap found_of v.this-is ∙ coded c.loop-at.at c.loop-at.position (omega (arith, W.low)) (omega (arith, W.low, C, l)))
-            | else-read_u16-name v ↦ has_not W l (λ z. v.if-read_u16-name.false (w.read_u16.ensures ∙ z)) (ap found_of v.this-is ∙ nothing_found)
-          ]))
-      | else-here-kind w ↦ moved (ap found_of w.found-is) w.position-is (other_kind W l (λ z. w.if-here-kind.false (r ∙ z)))
+    (elim c.if-here-wanted.branch [
+      | then-here-wanted w ↦
+          let e = sym r ∙ (w.if-here-wanted.true ∙ c.from-wanted.ensures) in
+          elim w.if-read_u16-name.branch [
+            | then-read_u16-name v ↦ moved (w.found-is ∙ v.found-is) w.position-is (this_kind W l (at_place c.loop-at.position c.loop-at.at) e (has_name W l e (sym w.read_u16.ensures ∙ v.if-read_u16-name.true) refl))
+            | else-read_u16-name v ↦ moved (w.found-is ∙ v.found-is) w.position-is (this_kind W l None e (has_not W l (λ z. v.if-read_u16-name.false (w.read_u16.ensures ∙ z)) refl))
+          ]
+      | else-here-wanted w ↦ moved w.found-is w.position-is (other_kind W l (λ z. w.if-here-wanted.false (r ∙ (z ∙ sym c.from-wanted.ensures))))
     ])
 
-pub returns : goal.returns
-returns c = let W = walked c.loop-at.invariant c.loop-at-test.false in rw c.decoded-2.ensures W
+pub returns-clause-is : goal.returns-clause-is
+returns-clause-is c = (walked c.loop-at.invariant c.loop-at-test.false).0
+
+pub returns-clause-stands : goal.returns-clause-stands
+returns-clause-stands c = (walked c.loop-at.invariant c.loop-at-test.false).1

@@ -16,10 +16,6 @@ returns-then-counters-ge-MOST_LOCALS c =
     let full : a.ctx.counters.local ≡ 256 = omega (arith, c.requires.locals) in
     record { is = no_local a.ty a.value.0 a.log.now a.tables.now a.ctx long full; grown = tt }
 
--- a type's code has four bytes
-pub overflow_cast-tables : goal.overflow_cast-tables
-overflow_cast-tables c = let q = c.type_code.ensures in omega (arith, q.0, q.2, q.3)
-
 -- there is room where the type is stored
 pub bounds-tables-k : goal.bounds-tables-k
 bounds-tables-k c = rw c.next_local-taken.ensures (omega arith)
@@ -33,5 +29,5 @@ returns c =
     let taken = c.next_local-taken.ensures in
     let w = rw (c.with_counters-next.ensures, taken) at c.emit_write_local.ensures in
     rw (taken, from_zero n) (
-    record { is = one_local a.ty a.value.0 a.log.now _ a.tables.now a.ctx long fits c.type_code.ensures w; grown = local_grown a.ctx _ c.requires fits w.same }
+    record { is = one_local a.ty a.value.0 a.log.now _ a.tables.now a.ctx long fits c.from.ensures w; grown = local_grown a.ctx _ c.requires fits w.same }
     )

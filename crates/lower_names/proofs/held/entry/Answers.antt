@@ -10,12 +10,12 @@ use Rattle.lower_names.proofs.held.entry.Goals as goal
 
 pub overflow_add-result-4 : goal.overflow_add-result-4
 overflow_add-result-4 c =
-    let d = c.type_code-code in
+    let d = c.from-code in
     omega (arith, d.ensures.0, d.ensures.3, tag_low (as_type c.args.ty))
 
 pub returns : goal.returns
 returns c =
-    let d = c.type_code-code in
+    let d = c.from-code in
     let a = c.args in
     let t = as_type a.ty in
     let tag : d.result % 65536 ≡ tag_of t = omega (arith, d.ensures.0, d.ensures.2) in

@@ -8,4 +8,4 @@ use Rattle.lower_names.proofs.held.lookup_of.Goals as goal
 
 pub returns : goal.returns
 unfolding held_of
-returns c = ap (λ (t : defs.IrType). some (c.args.e / 65536 % 65536, t)) c.type_of-ty.ensures
+returns c = ap (λ (t : defs.IrType). some (c.args.e / 65536 % 65536, t)) c.from_parts-ty.ensures

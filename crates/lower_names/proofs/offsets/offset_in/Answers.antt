@@ -1,37 +1,24 @@
 -- `lower_names::offsets::offset_in`: the struct that was found, and the field in it. Assumes nothing.
-use mathlib.Core.Path.{ap, sym, ◌∙◌, subst}
-use native.Mathlib.Omega.{arith}
+use mathlib.Core.Path.{ap, sym, ◌∙◌}
 use Rattle.definitions.specs.ContractSheet.{read_contract}
-use Rattle.contract_lookup.specs.Answers.{StandsAt, position_of}
-use Rattle.contract_lookup.proofs.Firsts.{position_low}
-use Rattle.contract_lookup.proofs.Symbolic.{struct_is}
+use Rattle.contract_nodes.specs.Nodes.{struct_in}
+use Rattle.ir.specs.Answers.{option_of}
 use Rattle.lower_names.proofs.Symbolic.{offset_here, no_offset}
 use Rattle.lower_names.proofs.offsets.offset_in.Goals as goal
 
-pub field_position-requires : goal.field_position-requires
-field_position-requires c =
+pub returns-in-Some-field_position : goal.returns-in-Some-field_position
+returns-in-Some-field_position c =
     let a = c.args in
-    (c.requires, (39, subst (StandsAt a.s.now 3) c.in-At.is c.last_named.ensures.1))
+    offset_here (read_contract a.s.now) a.of.0 a.field.0 _ (sym (ap (option_of struct_in) c.in-Some.is) ∙ c.struct_named.ensures)
+    (sym (ap (option_of (λ i. i)) c.in-Some-field_position.is) ∙ c.field_position.ensures.is)
 
-pub overflow_mul-result : goal.overflow_mul-result
-overflow_mul-result c =
+pub returns-in-None-field_position : goal.returns-in-None-field_position
+returns-in-None-field_position c =
     let a = c.args in
-    let R = subst (StandsAt a.s.now 3) c.in-At.is c.last_named.ensures.1 in
-    omega (arith, position_low a.field.0 R (sym (ap position_of c.in-At-field_position.is) ∙ c.field_position.ensures))
+    offset_here (read_contract a.s.now) a.of.0 a.field.0 _ (sym (ap (option_of struct_in) c.in-Some.is) ∙ c.struct_named.ensures)
+    (sym (ap (option_of (λ i. i)) c.in-None-field_position.is) ∙ c.field_position.ensures.is)
 
-pub returns-in-At-field_position : goal.returns-in-At-field_position
-returns-in-At-field_position c =
+pub returns-in-None : goal.returns-in-None
+returns-in-None c =
     let a = c.args in
-    let d = struct_is a.of.0 c.requires c.in-At.is c.last_named.ensures.0 in
-    offset_here (read_contract a.s.now) a.of.0 a.field.0 _ d (sym (ap position_of c.in-At-field_position.is) ∙ c.field_position.ensures)
-
-pub returns-in-Missing-field_position : goal.returns-in-Missing-field_position
-returns-in-Missing-field_position c =
-    let a = c.args in
-    let d = struct_is a.of.0 c.requires c.in-At.is c.last_named.ensures.0 in
-    offset_here (read_contract a.s.now) a.of.0 a.field.0 _ d (sym (ap position_of c.in-Missing-field_position.is) ∙ c.field_position.ensures)
-
-pub returns-in-Missing : goal.returns-in-Missing
-returns-in-Missing c =
-    let a = c.args in
-    no_offset (read_contract a.s.now) a.of.0 a.field.0 (struct_is a.of.0 c.requires c.in-Missing.is c.last_named.ensures.0)
+    no_offset (read_contract a.s.now) a.of.0 a.field.0 (sym (ap (option_of struct_in) c.in-None.is) ∙ c.struct_named.ensures)

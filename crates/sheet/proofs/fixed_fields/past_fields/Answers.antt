@@ -1,18 +1,13 @@
 -- `sheet::fixed_fields::past_fields`: the fields that are left decide. Assumes nothing.
-use mathlib.Core.Path.{refl}
-use native.Mathlib.Omega.{arith}
-use borrow.Author.Rules.{rules}
-use Rattle.sheet.proofs.Digits.{all_passed, not_passed, passed}
+use Rattle.std.proofs.Common.{arith}
+use Rattle.sheet.proofs.Fields.{all_passed, not_passed, passed}
 use Rattle.sheet.proofs.fixed_fields.past_fields.Goals as goal
 
-pub loop-left-init : goal.loop-left-init
-loop-left-init c = record { low = omega arith; high = omega arith; small = omega arith; same = refl }
+pub returns-in_err-place : goal.returns-in_err-place
+returns-in_err-place c = rw c.from_residual.ensures (not_passed c.loop-field.invariant _ c.loop-field-test.true c.past_field.ensures c.in_err-place.was)
 
-pub returns-then-place-eq0 : goal.returns-then-place-eq0
-returns-then-place-eq0 c = search (not_passed, rules)
-
-pub loop-left-preserved : goal.loop-left-preserved
-loop-left-preserved c = search (passed, rules)
+pub loop-field-preserved : goal.loop-field-preserved
+loop-field-preserved c = passed c.loop-field.invariant _ c.loop-field-test.true c.past_field.ensures c.in_ok-place.was
 
 pub returns : goal.returns
-returns c = search (all_passed, rules)
+returns c = all_passed c.loop-field.invariant (omega arith)

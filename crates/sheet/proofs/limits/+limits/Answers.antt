@@ -1,40 +1,52 @@
 -- `sheet::limits::limits`: each record's way through the code, by `Within`. Assumes nothing.
-use Rattle.std.proofs.Common.{ℕ, arith, rules}
-use Rattle.sheet.proofs.Within.{Clear, over_now, too_deep, one_too_many, too_wide_lem, clears, children_good, children_bad, no_children, kids_passed}
+use Rattle.std.proofs.Common.{ℕ, ◌+◌, ◌∙◌, ap, arith}
+use Rattle.definitions.proofs.Results.{told}
+use Rattle.format.specs.Kinds.{number_of}
+use Rattle.sheet.specs.Forms.{limits_of}
+use Rattle.sheet.specs.Limits.{counts_of}
+use Rattle.sheet.proofs.Within.{Clear, passed_on, over_now, too_deep, one_too_many, too_wide_lem, clears, goes_on, none_inside, ends_bad, kids_passed}
 use Rattle.sheet.proofs.limits.+limits.Goals as goal
-use Rattle.sheet.proofs.limits.+limits.Goals.{Else-too_wide}
+use Rattle.sheet.proofs.limits.+limits.Goals.{Else-too_wide, then-depth-gt-MOST_DEPTH-via-then-depth-gt-MOST_DEPTH, then-depth-gt-MOST_DEPTH-via-else-depth-gt-MOST_DEPTH+then-too_many, then-depth-gt-MOST_DEPTH-via-else-depth-gt-MOST_DEPTH+else-too_many+then-too_wide}
 
 -- a record within the limits
-cleared : {t : ℕ} (c : Else-too_wide t) → let a = c.args in let l = c.loop-place in Clear a.s.now a.at a.end a.depth l.place c.read.result c.read-kind.result l.storage l.structs l.functions
+cleared : {t : ℕ} (c : Else-too_wide t) → let a = c.args in let l = c.loop-place in Clear a.s.now a.at a.end a.depth l.place (l.place + c.read.result) (number_of c.kind_of-kind.result) (counts_of l.before)
 cleared c =
-    clears c.loop-place.invariant c.loop-place-test.true c.read-kind.ensures.0 c.if-depth-gt-MOST_DEPTH.false
-    c.too_many.ensures c.if-too_many.false c.too_wide.ensures c.if-too_wide.false c.read.ensures.0
+    clears c.loop-place.invariant c.loop-place-test.true c.kind_of-kind.ensures c.if-depth-gt-MOST_DEPTH.false
+    c.too_many.ensures c.if-too_many.false c.too_wide.ensures c.if-too_wide.false (ap (λ (l : ℕ). c.loop-place.place + l) c.read.ensures.0)
 
 pub returns-then-depth-gt-MOST_DEPTH : goal.returns-then-depth-gt-MOST_DEPTH
-returns-then-depth-gt-MOST_DEPTH t c = too_deep c.loop-place.invariant c.loop-place-test.true c.read-kind.ensures.0 c.if-depth-gt-MOST_DEPTH.true
+unfolding limits_of
+returns-then-depth-gt-MOST_DEPTH t c =
+    elim c.then-depth-gt-MOST_DEPTH.branch [
+      | then-depth-gt-MOST_DEPTH-via-then-depth-gt-MOST_DEPTH w ↦
+          too_deep c.loop-place.invariant c.loop-place-test.true c.kind_of-kind.ensures w.if-depth-gt-MOST_DEPTH.true
+      | then-depth-gt-MOST_DEPTH-via-else-depth-gt-MOST_DEPTH+then-too_many w ↦
+          one_too_many c.loop-place.invariant c.loop-place-test.true c.kind_of-kind.ensures w.if-depth-gt-MOST_DEPTH.false w.too_many.ensures w.if-too_many.true
+      | then-depth-gt-MOST_DEPTH-via-else-depth-gt-MOST_DEPTH+else-too_many+then-too_wide w ↦
+          too_wide_lem c.loop-place.invariant c.loop-place-test.true c.kind_of-kind.ensures w.if-depth-gt-MOST_DEPTH.false w.too_many.ensures w.if-too_many.false w.too_wide.ensures w.if-too_wide.true
+    ]
 
-pub returns-then-too_many : goal.returns-then-too_many
-returns-then-too_many t c = one_too_many c.loop-place.invariant c.loop-place-test.true c.read-kind.ensures.0 c.if-depth-gt-MOST_DEPTH.false c.too_many.ensures c.if-too_many.true
-
-pub returns-then-too_wide : goal.returns-then-too_wide
-returns-then-too_wide t c =
-    too_wide_lem c.loop-place.invariant c.loop-place-test.true c.read-kind.ensures.0 c.if-depth-gt-MOST_DEPTH.false c.too_many.ensures c.if-too_many.false c.too_wide.ensures c.if-too_wide.true
-
-pub limits-inner-requires : goal.limits-inner-requires
-limits-inner-requires t c =
-    let d = cleared (goal.at.limits-inner-requires t c).Else-too_wide in
+pub limits-requires : goal.limits-requires
+limits-requires t c =
+    let d = cleared (goal.at.limits-requires t c).Else-too_wide in
     (omega arith, (kids_passed d c.body_of-body.ensures, (omega arith, omega arith)))
 
-pub returns-in-Over : goal.returns-in-Over
-returns-in-Over t c = children_bad (cleared (goal.at.returns-in-Over t c).Else-too_wide) c.body_of-body.ensures c.limits-inner.ensures c.in-Over.is
+pub returns-in_err-limits : goal.returns-in_err-limits
+unfolding limits_of
+returns-in_err-limits t c =
+    passed_on c.from_residual.result c.from_residual.ensures
+    ∙ ends_bad (cleared (goal.at.returns-in_err-limits t c).Else-too_wide) c.body_of-body.ensures (told limits_of c.in_err-limits.was c.limits.ensures)
 
-pub loop-place-preserved-in_default : goal.loop-place-preserved-in_default
-loop-place-preserved-in_default t c =
-    children_good (cleared (goal.at.loop-place-preserved-in_default t c).Else-too_wide) c.one_if-storage.ensures c.one_if-structs.ensures c.one_if-functions.ensures c.body_of-body.ensures c.limits-inner.ensures c.in_default.is
+pub loop-place-preserved-in_ok-limits : goal.loop-place-preserved-in_ok-limits
+unfolding limits_of
+loop-place-preserved-in_ok-limits t c =
+    goes_on (cleared (goal.at.loop-place-preserved-in_ok-limits t c).Else-too_wide) c.body_of-body.ensures c.add.ensures (told limits_of c.in_ok-limits.was c.limits.ensures)
 
 pub loop-place-preserved : goal.loop-place-preserved
 loop-place-preserved t c =
-    no_children (cleared (goal.at.loop-place-preserved t c).Else-too_wide) c.one_if-storage.ensures c.one_if-structs.ensures c.one_if-functions.ensures c.body_of-body.ensures c.if-body-stop.false
+    let d = cleared (goal.at.loop-place-preserved t c).Else-too_wide in
+    goes_on d c.body_of-body.ensures c.add.ensures (none_inside d c.body_of-body.ensures c.if-body-stop.false)
 
 pub returns : goal.returns
-returns t c = search (over_now, rules)
+unfolding limits_of
+returns t c = over_now c.loop-place.invariant c.loop-place-test.false

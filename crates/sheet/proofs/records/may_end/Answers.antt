@@ -1,17 +1,11 @@
--- `sheet::records::may_end`: what is left of the pattern decides. Assumes nothing.
-use mathlib.Core.Path.{refl}
-use borrow.Author.Rules.{rules}
-use Rattle.sheet.proofs.Patterns.{ended, must_come, may_lack}
+-- `sheet::records::may_end`: a child that has to come stands in the way. Assumes nothing.
+use Rattle.std.proofs.Common.{rules}
+use borrow.Author.Tests.{tests}
+use Rattle.std.proofs.lemmas.Iterator.{cases_from_all, YieldsList-from_slice}
+use Rattle.sheet.proofs.Lists.{Spared, Needed, ends}
 use Rattle.sheet.proofs.records.may_end.Goals as goal
 
-pub loop-left-init : goal.loop-left-init
-loop-left-init c = record { ok = search rules; same = refl }
-
-pub returns-then-left-eq-ONE : goal.returns-then-left-eq-ONE
-returns-then-left-eq-ONE c = search (must_come, rules)
-
-pub loop-left-preserved : goal.loop-left-preserved
-loop-left-preserved c = search (may_lack, rules)
-
 pub returns : goal.returns
-returns c = search (ended, rules)
+returns c =
+    ends c.args.pattern.now c.all.result (cases_from_all _ _ _ Spared Needed c.all.ensures.ran (YieldsList-from_slice c.args.pattern.now cc)
+    (λ x q k. search (rules, tests)) (λ x q k. search (rules, tests)))

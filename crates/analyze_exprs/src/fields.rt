@@ -1,0 +1,47 @@
+// The fields of a value and of a literal.
+ghost use Rattle.std.specs.Prelude.{◌≡◌};
+ghost use Rattle.ir.specs.Answers.{result_of, done_of};
+ghost use Rattle.contract_nodes.specs.Nodes.{struct_in};
+ghost use Rattle.analyze_env.specs.Types.{as_ty};
+ghost use Rattle.analyze_walk.specs.Stops.{access};
+ghost use Rattle.analyze_state.specs.Errors.{error_of};
+ghost use Rattle.analyze_state.specs.State.{contract_of};
+ghost use Rattle.analyze_exprs.specs.Typed.{field_check};
+
+use analyze_env::{Ty, differs};
+use analyze_state::{Analyzer, SemaError};
+use contract_lookup::symbols::field_type;
+use contract_nodes::Struct;
+use ir::{IrType, Name};
+
+// The type of a field of a value. A struct that is not declared is no error.
+pub(crate) fn access(a: &Analyzer, at: usize, field: Name, ty: Ty) -> Result<Ty, SemaError>
+    ensures { result_of error_of as_ty result ≡ access (contract_of a.now) at field.0 (as_ty ty) }
+{
+    let Ty::Known(t) = ty else {
+        return Ok(Ty::Unknown);
+    };
+    let IrType::Struct(name) = t else {
+        return Err(SemaError::FieldOfNonStruct(at));
+    };
+    let Some(of) = a.structs.named(name) else {
+        return Ok(Ty::Unknown);
+    };
+    match field_type(of, field) {
+        Some(found) => Ok(Ty::Known(found)),
+        None => Err(SemaError::NoSuchField(at)),
+    }
+}
+
+// A field of a literal of a struct, by the type of its value. The literal's place is `at`.
+pub(crate) fn check_field(of: Struct, at: usize, field: Name, ty: Ty) -> Result<(), SemaError>
+    ensures { done_of error_of result ≡ field_check at (struct_in of.entry).fields field.0 (as_ty ty) }
+{
+    let Some(expected) = field_type(of, field) else {
+        return Err(SemaError::UnknownField(at));
+    };
+    if differs(ty, Ty::Known(expected)) {
+        return Err(SemaError::FieldMismatch(at));
+    }
+    Ok(())
+}

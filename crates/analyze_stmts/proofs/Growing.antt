@@ -1,0 +1,69 @@
+-- The names that become known, and the room for them. Assumes nothing.
+use mathlib.Core.Path.{◌≡◌, ap, sym, ◌∙◌}
+use mathlib.Core.List.{List, [], ◌∷◌, ◌++◌, append_assoc}
+use Prim.Native.Nat.{ℕ, zero, suc, ◌+◌, ◌-◌, ◌≤◌}
+use native.Mathlib.Omega.{arith}
+use lib.ListN.{length, drop, length-append}
+use Rattle.std.specs.Prelude.{Result, Ok, Err, OnOk}
+use Rattle.definitions.specs.Analyze.{Ty, Env}
+use Rattle.definitions.specs.Grammar.{Class}
+use Rattle.definitions.specs.Records.{check_records}
+use Rattle.definitions.proofs.Sheets.Passed.{fine}
+use Rattle.definitions.proofs.Sheets.Steps as steps
+use Rattle.contract_nodes.specs.Ready.{StandAll}
+use Rattle.analyze_env.specs.Names.{Names, named, truncated}
+use Rattle.analyze_stmts.specs.Room.{FewAt, Grown}
+
+-- ONE, of a record of 16 bytes and more
+pub one_more : {env new : Names} {n : ℕ} {t : Ty} (at : ℕ) {y : ℕ} → new ≡ named n t env → FewAt at env → at + 16 ≤ y → Grown env new y
+one_more {env} {new} {n} {t} at q f h = record {
+  more = (n, t) ∷ [];
+  is = ap (λ (e : Names). e.names) q;
+  few = omega (arith, f, h, ap (λ (e : Names). length e.names) q);
+  room = ap (λ (e : Names). e.room) q;
+}
+
+-- ONE AFTER THE OTHER
+pub then_more : {a b d : Names} {x y : ℕ} → Grown a b x → Grown b d y → Grown a d y
+then_more f g = record {
+  more = g.more ++ f.more;
+  is = rw (g.is, f.is) (sym (append_assoc g.more f.more _));
+  few = g.few;
+  room = g.room ∙ f.room;
+}
+
+pub up_to : {a b : Names} {x y : ℕ} → Grown a b x → x ≤ y → Grown a b y
+up_to f h = record { more = f.more; is = f.is; few = omega (arith, f.few, h); room = f.room }
+
+pub on_ok : {E P Q : Type 0} (r : Result (Unit {0}) E) → (P → Q) → OnOk r P → OnOk r Q
+on_ok (Ok x) f p = f p
+on_ok (Err e) f p = tt
+
+-- THE FIRST ONES AGAIN, behind a For
+drop_all : (xs : Env) (z : ℕ × Ty) (ys : Env) (k : ℕ) → k ≡ suc (length xs) → drop k (xs ++ (z ∷ ys)) ≡ ys
+drop_all xs z ys zero e = absurd (omega arith)
+drop_all [] z ys (suc k) e = let q : k ≡ 0 = omega arith in rw q
+drop_all (x ∷ xs) z ys (suc k) e = drop_all xs z ys k (omega arith)
+
+module _ {env e₁ e₂ : Names} {n : ℕ} {t : Ty} {x : ℕ} (q : e₁ ≡ named n t env) (g : Grown e₁ e₂ x) where
+  opened : e₂.names ≡ g.more ++ ((n, t) ∷ env.names)
+  opened = g.is ∙ ap (λ (e : Names). g.more ++ e.names) q
+
+  module _ {e₃ : Names} {mark : ℕ} (m : mark ≡ length env.names) (c : e₃ ≡ truncated mark e₂) where
+    pub names_back : e₃.names ≡ env.names
+    names_back =
+        ap (λ (e : Names). e.names) c
+        ∙ rw opened (drop_all g.more (n, t) env.names (length (g.more ++ ((n, t) ∷ env.names)) - mark) (omega (arith, m, length-append g.more ((n, t) ∷ env.names))))
+
+    pub back : (at : ℕ) {y : ℕ} → FewAt at env → at ≤ y → Grown env e₃ y
+    back at f h = record {
+      more = [];
+      is = names_back;
+      few = omega (arith, ap length names_back, f, h);
+      room = ap (λ (e : Names). e.room) c ∙ (g.room ∙ ap (λ (e : Names). e.room) q);
+    }
+
+-- statements stand in order
+pub in_order : (c : Class) (s : List ℕ) (at end d : ℕ) → StandAll c s at end d → at ≤ end
+unfolding check_records
+in_order c s at end d p = steps.low (fine _ _ _ _ _ p.0)

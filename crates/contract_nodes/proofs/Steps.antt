@@ -1,0 +1,199 @@
+-- What the nodes' functions cite: the kinds by their numbers, pairs of a name and a type by their position, and the fields of a struct literal. Assumes nothing.
+use mathlib.Core.Path.{◌≡◌, refl, ap, ap₂, sym, ◌∙◌, subst}
+use mathlib.Core.List.{List}
+use mathlib.Core.Option.{none, some}
+use Prim.Native.Nat.{ℕ, zero, suc, ◌+◌, ◌-◌, ◌*◌, ◌<◌, ◌≤◌}
+use native.Mathlib.Omega.{arith}
+use lib.Dec.{eqb}
+use lib.ListN.{length}
+use borrow.Author.Tests.{eqb-true, eqb-false, eq-eqb, ne_eqb}
+use Rattle.std.proofs.Common.{Result, Ok, Err, IsOk}
+use Rattle.definitions.specs.Fields.{le}
+use Rattle.definitions.specs.Ast as ast
+use Rattle.definitions.specs.Grammar.{Class, Field, Pattern, done, one, many, rows}
+use Rattle.definitions.specs.Records.{row_in, opt_from, num_at, Tree, node, Trees}
+use Rattle.definitions.specs.ContractSheet.{expr_of, exprs_of, field_inits_of}
+use Rattle.definitions.proofs.Results.{by_test}
+use Rattle.definitions.proofs.Sheets.Lines.{OfRows, Given, by_lines}
+use Rattle.format.specs.Kinds.{Reads, expr_number, stmt_number}
+use Rattle.format.specs.Operators.{op_number}
+use Rattle.format.specs.declared.kinds.UnknownKind.{UnknownKind}
+use Rattle.format.specs.declared.kinds.Expr.TheVariants as expr
+use Rattle.format.specs.declared.kinds.Expr as exprs
+use Rattle.format.specs.declared.kinds.Stmt.TheVariants as stmt
+use Rattle.format.specs.declared.kinds.Stmt as stmts
+use Rattle.format.specs.declared.operators.BinOp.{BinOp}
+use Rattle.format.specs.declared.operators.BinOp.TheVariants as op
+use Rattle.sheet.specs.Passed.{record_kind, stop_of, values_at}
+use Rattle.contract_nodes.specs.declared.contract.Param.{Param}
+use Rattle.contract_nodes.specs.Ready.{expr_at, fields_from, function_at, params_from, Stands, StandAll, Ready, ReadyAll}
+use Rattle.contract_nodes.specs.Nodes.{param_is}
+use Rattle.contract_nodes.proofs.Children.{by_row, all_of, named, More, End}
+use Rattle.contract_nodes.proofs.ExprPlaces.{one_at}
+use Rattle.contract_nodes.proofs.Standing.{stands, stand_all}
+use Rattle.contract_nodes.proofs.Tops.{FunctionAt}
+
+-- AT AN EQUAL PLACE
+pub stands_at : {c : Class} {s : List ℕ} {p x d : ℕ} → p ≡ x → Ready c s x d → Stands c s p d
+stands_at {c} {s} {d = d} e r = subst (λ (y : ℕ). Stands c s y d) (sym e) (stands r)
+
+pub all_to : {c : Class} {s : List ℕ} {at e x d : ℕ} → e ≡ x → ReadyAll c s at x d → StandAll c s at e d
+all_to {c} {s} {at} {d = d} z r = subst (λ (y : ℕ). StandAll c s at y d) (sym z) (stand_all r)
+
+pub all_at : {c : Class} {s : List ℕ} {a at e x d : ℕ} → a ≡ at → e ≡ x → ReadyAll c s at x d → StandAll c s a e d
+all_at {c} {s} {e = e} {d = d} w z r = subst (λ (y : ℕ). StandAll c s y e d) (sym w) (all_to z r)
+
+-- KINDS: a record of a class has a number that is read as a kind
+pub is_ok : {K : Type 0} (number : K → ℕ) (n : ℕ) (r : Result K UnknownKind) → Reads number n r → (k : K) × (number k ≡ n) → IsOk r
+is_ok number n (Ok k) h w = refl
+is_ok number n (Err e) h w = absurd (h w.0 w.1)
+
+pub read_as : {K : Type 0} (number : K → ℕ) {n : ℕ} {k : K} {r : Result K UnknownKind} → r ≡ Ok k → Reads number n r → number k ≡ n
+read_as number {n} e h = subst (λ x. Reads number n x) e h
+
+abbrev ExprKind : Class → ℕ → List Field → Pattern → Type 0
+ExprKind c k fs p = (x : exprs.Expr) × (expr_number x ≡ k)
+
+expr_rows : OfRows ExprKind Class.expression rows
+unfolding Given rows
+expr_rows =
+    by_lines ExprKind Class.expression rows
+    (expr.Int, refl)
+    (expr.Ident, refl)
+    (expr.StorageRead, refl)
+    (expr.MappingRead, refl)
+    (expr.FieldAccess, refl)
+    (expr.StructLiteral, refl)
+    (expr.Binary, refl)
+    (expr.Call, refl)
+
+pub expr_kind : {s : List ℕ} {at d : ℕ} → Ready Class.expression s at d → (x : exprs.Expr) × (expr_number x ≡ record_kind s at)
+expr_kind r = by_row ExprKind expr_rows r
+
+abbrev StmtKind : Class → ℕ → List Field → Pattern → Type 0
+StmtKind c k fs p = (x : stmts.Stmt) × (stmt_number x ≡ k)
+
+stmt_rows : OfRows StmtKind Class.statement rows
+unfolding Given rows
+stmt_rows =
+    by_lines StmtKind Class.statement rows
+    (stmt.Let, refl)
+    (stmt.Constrain, refl)
+    (stmt.Assign, refl)
+    (stmt.StorageWrite, refl)
+    (stmt.MappingWrite, refl)
+    (stmt.If, refl)
+    (stmt.While, refl)
+    (stmt.For, refl)
+    (stmt.Return, refl)
+    (stmt.Emit, refl)
+    (stmt.Expr, refl)
+
+pub stmt_kind : {s : List ℕ} {at d : ℕ} → Ready Class.statement s at d → (x : stmts.Stmt) × (stmt_number x ≡ record_kind s at)
+stmt_kind r = by_row StmtKind stmt_rows r
+
+-- an operator's number
+abbrev OpOf : ℕ → Type 0
+OpOf n = (x : BinOp) × (op_number x ≡ n)
+
+or_above : (i n : ℕ) → i ≤ n → OpOf i → (i < n → OpOf n) → OpOf n
+or_above i n h x above = by_test (eqb n i) (λ q. (x.0, x.1 ∙ sym (eqb-true n i q))) (λ q. above (omega (arith, eqb-false n i q, h)))
+
+pub op_kind : (n : ℕ) → n ≤ 9 → OpOf n
+op_kind n h =
+    or_above 0 n (omega arith) (op.Add, refl) (λ h.
+    or_above 1 n h (op.Sub, refl) (λ h.
+    or_above 2 n h (op.Mul, refl) (λ h.
+    or_above 3 n h (op.Div, refl) (λ h.
+    or_above 4 n h (op.Eq, refl) (λ h.
+    or_above 5 n h (op.Neq, refl) (λ h.
+    or_above 6 n h (op.Lt, refl) (λ h.
+    or_above 7 n h (op.Gt, refl) (λ h.
+    or_above 8 n h (op.Lte, refl) (λ h.
+    or_above 9 n h (op.Gte, refl) (λ i.
+    absurd (omega (arith, i, h_most))))))))))))
+  where
+    h_most : n ≤ 9
+    h_most = h
+
+-- PAIRS of a name and a type
+pub params_length : (s : List ℕ) (at n : ℕ) → length (params_from s at n) ≡ n
+unfolding params_from
+params_length s at zero = refl
+params_length s at (suc n) = ap suc (params_length s (at + 4) n)
+
+pub param_at : (s : List ℕ) (at n i : ℕ) {x : ℕ} (p : Param) → i < n → x ≡ at + 4 * i → p.name.0 ≡ le 2 s x → p.ty.0 ≡ le 2 s (x + 2) → param_is p (params_from s at n) i
+unfolding params_from
+param_at s at zero i p h e a b = absurd (omega (arith, h))
+param_at s at (suc n) zero {x} p h e a b = let z : x ≡ at = omega (arith, e) in (a ∙ ap (le 2 s) z, b ∙ ap (λ (y : ℕ). le 2 s (y + 2)) z)
+param_at s at (suc n) (suc i) p h e a b = param_at s (at + 4) n i p (omega (arith, h)) (omega (arith, e)) a b
+
+-- how many parameters a function has
+pub params_count : {s : List ℕ} {at d : ℕ} → FunctionAt s at d → length (function_at s at).params ≡ le 2 s (at + 12)
+params_count {s} {at} F = ap length F.params ∙ params_length s (at + 14) (le 2 s (at + 12))
+
+-- A STRUCT LITERAL: its name, and its fields to its end
+pub record LiteralAt (s : List ℕ) (at d : ℕ) : Type 0 where
+  pub fields : ReadyAll Class.field_init s (at + 8) (stop_of s at) (d - 1)
+  pub is : expr_at s at ≡ ast.Expr.StructLiteral at (le 2 s (at + 6)) (fields_from s (at + 8) (stop_of s at))
+
+pub literal_at : {s : List ℕ} {at d : ℕ} → Ready Class.expression s at d → record_kind s at ≡ 35 → LiteralAt s at d
+unfolding row_in rows expr_of
+literal_at r e = let n = named 65534 (many Class.field_init done) refl r e in record { fields = all_of n.kids; is = ap expr_of n.tree }
+
+-- a field of it: its name, and an expression
+abbrev IsField : Class → ℕ → List Field → Pattern → Type 0
+IsField c k fs p = k ≡ 6
+
+field_rows : OfRows IsField Class.field_init rows
+unfolding Given rows
+field_rows = by_lines IsField Class.field_init rows refl
+
+abbrev name_in : Tree → ℕ
+name_in (node at k v ts) = num_at 0 v
+
+pub record FieldAt (s : List ℕ) (at d : ℕ) : Type 0 where
+  pub fits : at + 8 ≤ length s
+  pub value : Ready Class.expression s (at + 8) (d - 1)
+  pub name : num_at 0 (values_at s at) ≡ le 2 s (at + 6)
+  pub is : expr_at s at ≡ expr_at s (at + 8)
+
+pub field_at : {s : List ℕ} {at d : ℕ} → Ready Class.field_init s at d → FieldAt s at d
+unfolding row_in rows expr_of
+field_at {s} {at} {d} r =
+    let e : record_kind s at ≡ 6 = by_row IsField field_rows r in
+    let o = one_at expr_of r e refl in
+    record { fits = o.fits; value = o.value; name = ap name_in (named 65534 (one Class.expression done) refl r e).tree; is = o.is }
+
+abbrev read_fields : Trees → ast.FieldInits
+read_fields ts = field_inits_of ts (exprs_of ts)
+
+pub first_field : {s : List ℕ} {at end d : ℕ} → More Class.field_init s at end d
+    → fields_from s at end ≡ ast.fcons at (le 2 s (at + 6)) (expr_at s (at + 8)) (fields_from s (stop_of s at) end)
+unfolding expr_of
+first_field {s} {at} {end} m =
+    let f = field_at m.ready in
+    ap read_fields m.is ∙ ap₂ (λ (n : ℕ) (e : ast.Expr). ast.fcons at n e (fields_from s (stop_of s at) end)) f.name f.is
+
+pub no_field : {s : List ℕ} {at end : ℕ} → End s at end → fields_from s at end ≡ ast.fnil
+unfolding expr_of
+no_field e = ap read_fields e.is
+
+-- A NAME that may be absent
+pub no_name : (n : ℕ) → n ≡ 65535 → none ≡ opt_from n
+unfolding opt_from
+no_name n e = rw (eq-eqb n 65535 e)
+
+pub some_name : (n : ℕ) {m : ℕ} → m ≡ n → (n ≡ 65535 → ⊥) → some m ≡ opt_from n
+unfolding opt_from
+some_name n e h = rw (ne_eqb n 65535 h) (ap some e)
+
+-- what is left behind the first of them, from an equal place
+pub all_from : {c : Class} {s : List ℕ} {a at e d : ℕ} → a ≡ at → ReadyAll c s at e d → StandAll c s a e d
+all_from {c} {s} {e = e} {d = d} w r = subst (λ (y : ℕ). StandAll c s y e d) (sym w) (stand_all r)
+
+pub below : {d e : ℕ} → e ≡ d - 1 → 1 ≤ d → e + 1 ≡ d
+below z h = omega (arith, z, h)
+
+pub below_two : {d e : ℕ} → e ≡ d - 2 → 2 ≤ d → e + 2 ≡ d
+below_two z h = omega (arith, z, h)

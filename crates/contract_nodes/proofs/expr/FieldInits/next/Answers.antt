@@ -1,0 +1,49 @@
+use mathlib.Core.Path.{refl, sym, ◌∙◌}
+use native.Mathlib.Omega.{arith}
+use Rattle.definitions.specs.Ast.{fcons}
+use Rattle.contract_nodes.specs.Ready.{fields_from}
+use Rattle.contract_nodes.proofs.Standing.{ready_all, stands}
+use Rattle.contract_nodes.proofs.Children.{more, no_more, size_fits, bounds}
+use Rattle.contract_nodes.proofs.Parts.{stop_is}
+use Rattle.contract_nodes.proofs.Steps.{all_from, field_at, first_field, no_field}
+use Rattle.contract_nodes.proofs.expr.FieldInits.next.Goals as goal
+
+pub returns-then-self : goal.returns-then-self
+returns-then-self c = no_field (no_more (ready_all c.args.self.now.ready) c.if-self.true)
+
+pub read_u16-requires : goal.read_u16-requires
+read_u16-requires c = let f = field_at (more (ready_all c.args.self.now.ready) c.if-self.false).ready in omega (arith, f.fits)
+
+pub overflow_sub-self : goal.overflow_sub-self
+overflow_sub-self c = (bounds (more (ready_all c.args.self.now.ready) c.if-self.false).ready).deep
+
+pub new-requires-2 : goal.new-requires-2
+new-requires-2 c = stands (field_at (more (ready_all c.args.self.now.ready) c.if-self.false).ready).value
+
+pub read-requires : goal.read-requires
+read-requires c = size_fits (more (ready_all c.args.self.now.ready) c.if-self.false).ready
+
+pub invariant_of-self : goal.invariant_of-self
+invariant_of-self c =
+    let l = c.args.self.now in
+    record { ready = all_from (stop_is l.contract.sheet.now l.at c.read.ensures.0) (more (ready_all l.ready) c.if-self.false).rest }
+
+pub returns : goal.returns
+returns c =
+    let l = c.args.self.now in
+    let m = more (ready_all l.ready) c.if-self.false in
+    let z = stop_is l.contract.sheet.now l.at c.read.ensures.0 in
+    let n = sym (c.new.ensures ∙ c.read_u16.ensures) in
+    let v = sym c.new-2.ensures.is in
+    let y = sym z in
+    record {
+      place = l.at;
+      is = first_field m ∙ λ i. fcons l.at (n i) (v i) (fields_from l.contract.sheet.now (y i) l.end);
+      sheet = c.new-2.ensures.same_sheet;
+      rest_sheet = refl;
+      depth = omega (arith, c.new-2.ensures.depth, (bounds m.ready).deep);
+      rest_depth = refl;
+      end = refl;
+      less = omega (arith, m.low, z);
+      within = omega (arith, m.high, z);
+    }

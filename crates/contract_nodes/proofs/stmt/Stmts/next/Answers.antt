@@ -1,0 +1,41 @@
+use mathlib.Core.Path.{refl, ap, sym, ◌∙◌}
+use native.Mathlib.Omega.{arith}
+use Rattle.definitions.specs.Ast.{scons}
+use Rattle.contract_nodes.specs.Ready.{stmt_at, stmts_from}
+use Rattle.contract_nodes.proofs.Standing.{ready_all, stands}
+use Rattle.contract_nodes.proofs.Children.{more, no_more, size_fits}
+use Rattle.contract_nodes.proofs.Parts.{stop_is}
+use Rattle.contract_nodes.proofs.Steps.{all_from}
+use Rattle.contract_nodes.proofs.stmt.Stmts.next.Goals as goal
+
+pub returns-then-self : goal.returns-then-self
+returns-then-self c = ((no_more (ready_all c.args.self.now.ready) c.if-self.true).stmts_is, refl)
+
+pub read-requires : goal.read-requires
+read-requires c = size_fits (more (ready_all c.args.self.now.ready) c.if-self.false).ready
+
+pub invariant_of-self : goal.invariant_of-self
+invariant_of-self c =
+    let l = c.args.self.now in
+    record { ready = all_from (stop_is l.contract.sheet.now l.at c.read.ensures.0) (more (ready_all l.ready) c.if-self.false).rest }
+
+pub invariant_of-stmt : goal.invariant_of-stmt
+invariant_of-stmt c = record { ready = stands (more (ready_all c.args.self.now.ready) c.if-self.false).ready }
+
+pub returns : goal.returns
+returns c =
+    let l = c.args.self.now in
+    let m = more (ready_all l.ready) c.if-self.false in
+    let z = stop_is l.contract.sheet.now l.at c.read.ensures.0 in
+    record {
+      is = m.stmts_is ∙ ap (λ x. scons (stmt_at l.contract.sheet.now l.at) (stmts_from l.contract.sheet.now x l.end)) (sym z);
+      sheet = refl;
+      rest_sheet = refl;
+      depth = refl;
+      rest_depth = refl;
+      place = refl;
+      next = z;
+      end = refl;
+      less = omega (arith, m.low, z);
+      within = omega (arith, m.high, z);
+    }

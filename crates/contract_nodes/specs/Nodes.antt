@@ -1,0 +1,188 @@
+-- What the nodes stand for: the trees of the definitions. Assumes nothing: these are definitions.
+use Rattle.std.specs.Prelude.{ℕ, zero, suc, ◌+◌, ◌≤◌, ◌<◌, ◌≡◌, ◌⊎◌, List, [], ◌∷◌, Option, None, Some}
+use Rattle.std.proofs.Math.Option as maths
+use Rattle.definitions.specs.Ast as ast
+use Rattle.definitions.specs.Lower.{count}
+use Rattle.definitions.specs.Result.{Done}
+use Rattle.definitions.specs.ContractSheet.{read_contract, struct_of, op_of}
+use Rattle.sheet.specs.Passed.{stop_of}
+use Rattle.format.specs.Operators.{op_number}
+use Rattle.contract_nodes.specs.Ready.{tree_at, expr_at, exprs_from, stmt_at, stmts_from, function_at, fields_from}
+use Rattle.ir.specs.declared.Name.{Name}
+use Rattle.contract_nodes.specs.declared.contract.Contract.{Contract}
+use Rattle.contract_nodes.specs.declared.contract.Struct.{Struct}
+use Rattle.contract_nodes.specs.declared.contract.Function.{Function}
+use Rattle.contract_nodes.specs.declared.contract.Param.{Param}
+use Rattle.contract_nodes.specs.declared.expr.Expr.{Expr}
+use Rattle.contract_nodes.specs.declared.expr.Exprs.{Exprs}
+use Rattle.contract_nodes.specs.declared.expr.FieldInits.{FieldInits}
+use Rattle.contract_nodes.specs.declared.expr.FieldInit.{FieldInit}
+use Rattle.contract_nodes.specs.declared.expr.ExprNode.{ExprNode}
+use Rattle.contract_nodes.specs.declared.expr.ExprNode.TheVariants as expr
+use Rattle.contract_nodes.specs.declared.stmt.Stmt.{Stmt}
+use Rattle.contract_nodes.specs.declared.stmt.Stmts.{Stmts}
+use Rattle.contract_nodes.specs.declared.stmt.StmtNode.{StmtNode}
+use Rattle.contract_nodes.specs.declared.stmt.StmtNode.TheVariants as stmt
+
+-- a sheet that passed its check says no more
+abbrev pub checked : Contract → Done
+checked c = tt
+
+-- THE READINGS
+abbrev pub contract_in : Contract → ast.Contract
+contract_in c = read_contract c.sheet.now
+
+abbrev pub struct_in : Struct → ast.Struct
+struct_in x = struct_of (tree_at x.contract.sheet.now x.at)
+
+abbrev pub function_in : Function → ast.Function
+function_in f = function_at f.contract.sheet.now f.at
+
+abbrev pub expr_in : Expr → ast.Expr
+expr_in e = expr_at e.contract.sheet.now e.at
+
+abbrev pub exprs_in : Exprs → ast.Exprs
+exprs_in e = exprs_from e.contract.sheet.now e.at e.end
+
+abbrev pub fields_in : FieldInits → ast.FieldInits
+fields_in e = fields_from e.contract.sheet.now e.at e.end
+
+abbrev pub stmt_in : Stmt → ast.Stmt
+stmt_in t = stmt_at t.contract.sheet.now t.at
+
+abbrev pub stmts_in : Stmts → ast.Stmts
+stmts_in t = stmts_from t.contract.sheet.now t.at t.end
+
+-- a name that may be absent
+abbrev pub opt_name : Option Name → maths.Option ℕ
+opt_name None = maths.none
+opt_name (Some n) = maths.some n.0
+
+-- the i-th of a list of fields or parameters
+abbrev pub param_is : Param → List ast.Param → ℕ → Type 0
+param_is p [] i = ⊥
+param_is p (q ∷ qs) zero = (p.name.0 ≡ q.name) × (p.ty.0 ≡ q.ty)
+param_is p (q ∷ qs) (suc i) = param_is p qs i
+
+abbrev pub count_of : ast.Exprs → ℕ
+count_of es = count es
+
+-- EXPRESSIONS: what a node is, at the place p
+abbrev pub expr_is : ℕ → ExprNode → ast.Expr
+expr_is p (expr.Int n) = ast.Expr.Int p n
+expr_is p (expr.Ident n) = ast.Expr.Ident p n.0
+expr_is p (expr.StorageRead n) = ast.Expr.StorageRead p n.0
+expr_is p (expr.MappingRead n e) = ast.Expr.MappingRead p n.0 (expr_in e)
+expr_is p (expr.FieldAccess n e) = ast.Expr.FieldAccess p n.0 (expr_in e)
+expr_is p (expr.StructLiteral n fs) = ast.Expr.StructLiteral p n.0 (fields_in fs)
+expr_is p (expr.Binary op l r) = ast.Expr.Binary p (op_of (op_number op)) (expr_in l) (expr_in r)
+expr_is p (expr.Call n es) = ast.Expr.Call p n.0 (exprs_in es)
+
+-- a part of it is of the same sheet, and one less deep
+abbrev pub InExpr : Expr → Expr → Type 0
+InExpr e x = (x.contract.sheet.now ≡ e.contract.sheet.now) × (x.depth + 1 ≡ e.depth)
+
+abbrev pub ExprParts : Expr → ExprNode → Type 0
+ExprParts e (expr.Int n) = Unit {0}
+ExprParts e (expr.Ident n) = Unit {0}
+ExprParts e (expr.StorageRead n) = Unit {0}
+ExprParts e (expr.MappingRead n x) = InExpr e x
+ExprParts e (expr.FieldAccess n x) = InExpr e x
+ExprParts e (expr.StructLiteral n fs) = (fs.contract.sheet.now ≡ e.contract.sheet.now) × (fs.depth + 1 ≡ e.depth)
+ExprParts e (expr.Binary op l r) = InExpr e l × InExpr e r
+ExprParts e (expr.Call n es) = (es.contract.sheet.now ≡ e.contract.sheet.now) × (es.depth + 1 ≡ e.depth)
+
+-- the first of the expressions is taken
+pub record FirstExpr (old new : Exprs) (e : Expr) : Type 0 where
+  pub is : exprs_in old ≡ ast.econs (expr_in e) (exprs_in new)
+  pub sheet : e.contract.sheet.now ≡ old.contract.sheet.now
+  pub rest_sheet : new.contract.sheet.now ≡ old.contract.sheet.now
+  pub depth : e.depth ≡ old.depth
+  pub rest_depth : new.depth ≡ old.depth
+  pub end : new.end ≡ old.end
+  pub less : old.at < new.at
+  pub within : new.at ≤ new.end
+
+abbrev pub TakesExpr : (old new : Exprs) → Option Expr → Type 0
+TakesExpr old new None = exprs_in old ≡ ast.enil
+TakesExpr old new (Some e) = FirstExpr old new e
+
+pub record FirstField (old new : FieldInits) (f : FieldInit) : Type 0 where
+  pub place : ℕ
+  pub is : fields_in old ≡ ast.fcons place f.name.0 (expr_in f.value) (fields_in new)
+  pub sheet : f.value.contract.sheet.now ≡ old.contract.sheet.now
+  pub rest_sheet : new.contract.sheet.now ≡ old.contract.sheet.now
+  pub depth : f.value.depth + 1 ≡ old.depth
+  pub rest_depth : new.depth ≡ old.depth
+  pub end : new.end ≡ old.end
+  pub less : old.at < new.at
+  pub within : new.at ≤ new.end
+
+abbrev pub TakesField : (old new : FieldInits) → Option FieldInit → Type 0
+TakesField old new None = fields_in old ≡ ast.fnil
+TakesField old new (Some f) = FirstField old new f
+
+-- STATEMENTS: what a node is. The places of blocks are any.
+pub record IfIs (t : Stmt) (c : Expr) (a b : Stmts) : Type 0 where
+  pub then_place : ℕ
+  pub arms : ast.OptStmts
+  pub is : stmt_in t ≡ ast.Stmt.If t.at (expr_in c) then_place (stmts_in a) arms
+  pub other : ((arms ≡ ast.no_else) × (stmts_in b ≡ ast.snil)) ⊎ ((p : ℕ) × (arms ≡ ast.else_do p (stmts_in b)))
+
+abbrev pub StmtIs : Stmt → StmtNode → Type 0
+StmtIs t (stmt.Let n e) = stmt_in t ≡ ast.Stmt.Let t.at n.0 (expr_in e)
+StmtIs t (stmt.Constrain e) = stmt_in t ≡ ast.Stmt.Constrain t.at (expr_in e)
+StmtIs t (stmt.Assign n e) = stmt_in t ≡ ast.Stmt.Assign t.at n.0 (expr_in e)
+StmtIs t (stmt.StorageWrite n e) = stmt_in t ≡ ast.Stmt.StorageWrite t.at n.0 (expr_in e)
+StmtIs t (stmt.MappingWrite n k e) = stmt_in t ≡ ast.Stmt.MappingWrite t.at n.0 (expr_in k) (expr_in e)
+StmtIs t (stmt.If c a b) = IfIs t c a b
+StmtIs t (stmt.While c b) = (p : ℕ) × (stmt_in t ≡ ast.Stmt.While t.at (expr_in c) p (stmts_in b))
+StmtIs t (stmt.For n a e b) = (p : ℕ) × (stmt_in t ≡ ast.Stmt.For t.at n.0 (expr_in a) (expr_in e) p (stmts_in b))
+StmtIs t (stmt.Return None) = stmt_in t ≡ ast.Stmt.Return t.at ast.absent
+StmtIs t (stmt.Return (Some e)) = stmt_in t ≡ ast.Stmt.Return t.at (ast.present (expr_in e))
+StmtIs t (stmt.Emit n es) = stmt_in t ≡ ast.Stmt.Emit t.at n.0 (exprs_in es)
+StmtIs t (stmt.Expr e) = stmt_in t ≡ ast.Stmt.ExprStmt t.at (expr_in e)
+
+abbrev pub stop_in : Stmt → ℕ
+stop_in t = stop_of t.contract.sheet.now t.at
+
+-- its parts are of the same sheet; an expression is one less deep, statements are two
+abbrev pub InStmt : Stmt → Expr → Type 0
+InStmt t e = (e.contract.sheet.now ≡ t.contract.sheet.now) × (e.depth + 1 ≡ t.depth)
+
+pub record SpanIn (t : Stmt) (b : Stmts) : Type 0 where
+  pub sheet : b.contract.sheet.now ≡ t.contract.sheet.now
+  pub depth : b.depth + 2 ≡ t.depth
+  pub low : t.at ≤ b.at
+  pub order : b.at ≤ b.end
+  pub high : b.end ≤ stop_in t
+
+abbrev pub StmtParts : Stmt → StmtNode → Type 0
+StmtParts t (stmt.Let n e) = InStmt t e × (t.at + 16 ≤ stop_in t)
+StmtParts t (stmt.Constrain e) = InStmt t e
+StmtParts t (stmt.Assign n e) = InStmt t e
+StmtParts t (stmt.StorageWrite n e) = InStmt t e
+StmtParts t (stmt.MappingWrite n k e) = InStmt t k × InStmt t e
+StmtParts t (stmt.If c a b) = InStmt t c × SpanIn t a × SpanIn t b × (a.end ≤ b.at)
+StmtParts t (stmt.While c b) = InStmt t c × SpanIn t b
+StmtParts t (stmt.For n a e b) = InStmt t a × InStmt t e × SpanIn t b × (t.at + 16 ≤ b.at)
+StmtParts t (stmt.Return None) = Unit {0}
+StmtParts t (stmt.Return (Some e)) = InStmt t e
+StmtParts t (stmt.Emit n es) = (es.contract.sheet.now ≡ t.contract.sheet.now) × (es.depth + 1 ≡ t.depth)
+StmtParts t (stmt.Expr e) = InStmt t e
+
+pub record FirstStmt (old new : Stmts) (t : Stmt) : Type 0 where
+  pub is : stmts_in old ≡ ast.scons (stmt_in t) (stmts_in new)
+  pub sheet : t.contract.sheet.now ≡ old.contract.sheet.now
+  pub rest_sheet : new.contract.sheet.now ≡ old.contract.sheet.now
+  pub depth : t.depth ≡ old.depth
+  pub rest_depth : new.depth ≡ old.depth
+  pub place : t.at ≡ old.at
+  pub next : new.at ≡ stop_in t
+  pub end : new.end ≡ old.end
+  pub less : old.at < new.at
+  pub within : new.at ≤ new.end
+
+abbrev pub TakesStmt : (old new : Stmts) → Option Stmt → Type 0
+TakesStmt old new None = (stmts_in old ≡ ast.snil) × (new.at ≡ old.at)
+TakesStmt old new (Some t) = FirstStmt old new t

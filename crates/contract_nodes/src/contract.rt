@@ -1,0 +1,128 @@
+// The contract, its structs and its functions.
+ghost use Rattle.definitions.specs.Grammar.{Class};
+ghost use Rattle.sheet.specs.Passed.{ContractPassed};
+ghost use Rattle.contract_nodes.specs.Ready.{Stands};
+
+use crate::stmt::Stmts;
+use format::{ABSENT, contract};
+use ir::Name;
+use reader::{read, read_u16};
+use sheet::ContractError;
+
+// A contract sheet that passed its check.
+#[derive(Clone, Copy, Debug)]
+pub struct Contract<'a> {
+    pub sheet: &'a [u8],
+    pub ghost passed: { ContractPassed sheet.now },
+}
+
+// A struct of it, by the place of its record.
+#[derive(Clone, Copy, Debug)]
+pub struct Struct<'a> {
+    pub contract: Contract<'a>,
+    pub at: usize,
+    pub ghost ready: { Stands Class.struct contract.sheet.now at 39 },
+}
+
+// A function of it.
+#[derive(Clone, Copy, Debug)]
+pub struct Function<'a> {
+    pub contract: Contract<'a>,
+    pub at: usize,
+    pub ghost ready: { Stands Class.function contract.sheet.now at 39 },
+}
+
+// A field of a struct, or a parameter of a function: its name, and its type's.
+#[derive(Clone, Copy, Debug)]
+pub struct Param {
+    pub name: Name,
+    pub ty: Name,
+}
+
+impl<'a> Contract<'a> {
+    ghost use Rattle.std.specs.Prelude.{◌≡◌, Ok, Err, IfOk};
+    ghost use Rattle.definitions.specs.Answers.{check_contract};
+    ghost use Rattle.ir.specs.Answers.{result_of};
+    ghost use Rattle.sheet.specs.Forms.{refusal_of};
+    ghost use Rattle.contract_nodes.specs.Nodes.{checked};
+
+    // The contract of a sheet: refusals 1, 3 and 4, in this order.
+    pub fn new(sheet: &'a [u8]) -> Result<Self, ContractError>
+        ensures is { result_of refusal_of checked result ≡ check_contract sheet.now }
+        ensures same_sheet { IfOk result (λ c. c.sheet.now ≡ sheet.now) }
+    {
+        sheet::check_contract(sheet)?;
+        Ok(Contract { sheet })
+    }
+}
+
+impl Struct<'_> {
+    ghost use Rattle.std.specs.Prelude.{◌≡◌};
+    ghost use Rattle.contract_nodes.specs.Nodes.{struct_in};
+
+    pub fn name(self) -> Name
+        ensures { result.0 ≡ (struct_in self.entry).name }
+    {
+        Name::new(read_u16(self.contract.sheet, self.at + contract::NAME))
+    }
+}
+
+impl<'a> Function<'a> {
+    ghost use Rattle.std.specs.Prelude.{◌≡◌, ◌+◌, ◌≤◌, ◌<◌, length};
+    ghost use Rattle.definitions.specs.Records.{opt_from};
+    ghost use Rattle.contract_nodes.specs.Nodes.{function_in, stmts_in, param_is, opt_name};
+
+    pub fn name(self) -> Name
+        ensures { result.0 ≡ (function_in self.entry).name }
+    {
+        Name::new(read_u16(self.contract.sheet, self.at + contract::NAME))
+    }
+
+    // Its return type's name, if it has one.
+    pub fn return_type(self) -> Option<Name>
+        ensures { opt_name result ≡ (function_in self.entry).return_type }
+    {
+        let name = read_u16(self.contract.sheet, self.at + contract::RETURN_TYPE);
+        if name == ABSENT {
+            None
+        } else {
+            Some(Name::new(name))
+        }
+    }
+
+    // How many parameters it has.
+    pub fn param_count(self) -> usize
+        ensures count { result ≡ length (function_in self.entry).params }
+        ensures most { result ≤ 16 }
+    {
+        read(self.contract.sheet, self.at + contract::PARAM_COUNT, 2)
+    }
+
+    // The i-th parameter.
+    pub fn param(self, i: usize) -> Param
+        requires { i < length (function_in self).params }
+        ensures { param_is result (function_in self.entry).params i }
+    {
+        let place = self.at + contract::PARAMS + contract::PARAM * i;
+        Param {
+            name: Name::new(read_u16(self.contract.sheet, place)),
+            ty: Name::new(read_u16(self.contract.sheet, place + contract::PARAM_TYPE)),
+        }
+    }
+
+    // Its statements.
+    pub fn body(self) -> Stmts<'a>
+        ensures is { stmts_in result ≡ (function_in self.entry).body }
+        ensures same_sheet { result.contract.sheet.now ≡ self.entry.contract.sheet.now }
+        ensures depth { result.depth ≡ 38 }
+        ensures place { (self.entry.at + 14 ≤ result.at) × (result.end ≤ 32768) }
+    {
+        let s = self.contract.sheet;
+        Stmts {
+            contract: self.contract,
+            at: self.at + contract::PARAMS + contract::PARAM * self.param_count(),
+            end: self.at + read(s, self.at, 4),
+            depth: contract::FUNCTION_DEPTH - 1,
+        }
+    }
+}

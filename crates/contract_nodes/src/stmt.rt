@@ -1,0 +1,205 @@
+// Statements.
+ghost use Rattle.definitions.specs.Grammar.{Class};
+ghost use Rattle.contract_nodes.specs.Ready.{Stands, StandAll};
+
+use crate::contract::Contract;
+use crate::expr::{Expr, Exprs};
+use format::{HEAD, KIND, contract, kinds};
+use ir::Name;
+use reader::{read, read_u16};
+
+// A statement by the place of its record.
+#[derive(Clone, Copy, Debug)]
+pub struct Stmt<'a> {
+    pub contract: Contract<'a>,
+    pub at: usize,
+    pub depth: usize,
+    pub ghost ready: { Stands Class.statement contract.sheet.now at depth },
+}
+
+// Statements that stand from a place to an end: those of a function, an arm or a body.
+#[derive(Clone, Copy, Debug)]
+pub struct Stmts<'a> {
+    pub contract: Contract<'a>,
+    pub at: usize,
+    pub end: usize,
+    pub depth: usize,
+    pub ghost ready: { StandAll Class.statement contract.sheet.now at end depth },
+}
+
+// What a statement is (`Stmt` of `ast.rs`). An If without a second arm has one without statements.
+#[derive(Clone, Copy, Debug)]
+pub enum StmtNode<'a> {
+    Let(Name, Expr<'a>),
+    Constrain(Expr<'a>),
+    Assign(Name, Expr<'a>),
+    StorageWrite(Name, Expr<'a>),
+    MappingWrite(Name, Expr<'a>, Expr<'a>),
+    If(Expr<'a>, Stmts<'a>, Stmts<'a>),
+    While(Expr<'a>, Stmts<'a>),
+    For(Name, Expr<'a>, Expr<'a>, Stmts<'a>),
+    Return(Option<Expr<'a>>),
+    Emit(Name, Exprs<'a>),
+    Expr(Expr<'a>),
+}
+
+impl<'a> Stmt<'a> {
+    ghost use Rattle.std.specs.Prelude.{◌≡◌, ◌+◌, ◌≤◌, length};
+    ghost use Rattle.definitions.specs.Fields.{le};
+    ghost use Rattle.format.specs.Kinds.{stmt_number};
+    ghost use Rattle.sheet.specs.Passed.{record_kind, stop_of};
+    ghost use Rattle.contract_nodes.specs.Nodes.{StmtIs, StmtParts};
+
+    fn kind(self) -> kinds::Stmt
+        ensures { stmt_number result ≡ record_kind self.entry.contract.sheet.now self.entry.at }
+    {
+        kinds::Stmt::try_from(read_u16(self.contract.sheet, self.at + KIND)).unwrap()
+    }
+
+    // Its name, if its kind has one.
+    fn name(self) -> Name
+        requires { self.at + 8 ≤ length self.contract.sheet.now }
+        ensures { result.0 ≡ le 2 self.entry.contract.sheet.now (self.entry.at + 6) }
+    {
+        Name::new(read_u16(self.contract.sheet, self.at + contract::NAME))
+    }
+
+    // The place behind its record.
+    fn end(self) -> usize
+        ensures { result ≡ stop_of self.entry.contract.sheet.now self.entry.at }
+    {
+        self.at + read(self.contract.sheet, self.at, 4)
+    }
+
+    pub fn node(self) -> StmtNode<'a>
+        ensures is { StmtIs self.entry result }
+        ensures parts { StmtParts self.entry result }
+    {
+        let contract = self.contract;
+        let s = contract.sheet;
+        let first = self.at + HEAD;
+        let at = self.at + contract::AFTER_NAME;
+        let depth = self.depth - 1;
+        match self.kind() {
+            kinds::Stmt::Let => StmtNode::Let(self.name(), Expr::new(contract, at, depth)),
+            kinds::Stmt::Constrain => StmtNode::Constrain(Expr::new(contract, first, depth)),
+            kinds::Stmt::Assign => StmtNode::Assign(self.name(), Expr::new(contract, at, depth)),
+            kinds::Stmt::StorageWrite => StmtNode::StorageWrite(
+                self.name(),
+                Expr::new(contract, at, depth),
+            ),
+            kinds::Stmt::MappingWrite => {
+                let key = Expr::new(contract, at, depth);
+                let value = Expr::new(contract, at + read(s, at, 4), depth);
+                StmtNode::MappingWrite(self.name(), key, value)
+            }
+            kinds::Stmt::If => self.if_node(),
+            kinds::Stmt::While => self.while_node(),
+            kinds::Stmt::For => self.for_node(),
+            kinds::Stmt::Return => {
+                if self.end() <= first {
+                    return StmtNode::Return(None);
+                }
+                StmtNode::Return(Some(Expr::new(contract, first, depth)))
+            }
+            kinds::Stmt::Emit => StmtNode::Emit(
+                self.name(),
+                Exprs {
+                    contract,
+                    at,
+                    end: self.end(),
+                    depth,
+                },
+            ),
+            kinds::Stmt::Expr => StmtNode::Expr(Expr::new(contract, first, depth)),
+        }
+    }
+
+    // An If: its condition, its block, and perhaps a second block.
+    fn if_node(self) -> StmtNode<'a>
+        requires { record_kind self.contract.sheet.now self.at ≡ 15 }
+        ensures is { StmtIs self.entry result }
+        ensures parts { StmtParts self.entry result }
+    {
+        let contract = self.contract;
+        let s = contract.sheet;
+        let at = self.at + HEAD;
+        let block = at + read(s, at, 4);
+        let stop = block + read(s, block, 4);
+        let end = self.end();
+        let other = if stop < end { stop + HEAD } else { end };
+        let condition = Expr::new(contract, at, self.depth - 1);
+        let then = Stmts::new(contract, block + HEAD, stop, self.depth - 2);
+        let otherwise = Stmts::new(contract, other, end, self.depth - 2);
+        StmtNode::If(condition, then, otherwise)
+    }
+
+    // A While: its condition and its block.
+    fn while_node(self) -> StmtNode<'a>
+        requires { record_kind self.contract.sheet.now self.at ≡ 16 }
+        ensures is { StmtIs self.entry result }
+        ensures parts { StmtParts self.entry result }
+    {
+        let contract = self.contract;
+        let at = self.at + HEAD;
+        let block = at + read(contract.sheet, at, 4);
+        let condition = Expr::new(contract, at, self.depth - 1);
+        let body = Stmts::new(contract, block + HEAD, self.end(), self.depth - 2);
+        StmtNode::While(condition, body)
+    }
+
+    // A For: its variable, where it starts, where it ends, and its block.
+    fn for_node(self) -> StmtNode<'a>
+        requires { record_kind self.contract.sheet.now self.at ≡ 17 }
+        ensures is { StmtIs self.entry result }
+        ensures parts { StmtParts self.entry result }
+    {
+        let contract = self.contract;
+        let s = contract.sheet;
+        let from = self.at + contract::AFTER_NAME;
+        let to = from + read(s, from, 4);
+        let block = to + read(s, to, 4);
+        let first = Expr::new(contract, from, self.depth - 1);
+        let last = Expr::new(contract, to, self.depth - 1);
+        let body = Stmts::new(contract, block + HEAD, self.end(), self.depth - 2);
+        StmtNode::For(self.name(), first, last, body)
+    }
+}
+
+impl<'a> Stmts<'a> {
+    ghost use Rattle.std.specs.Prelude.{◌≡◌};
+    ghost use Rattle.contract_nodes.specs.Ready.{stmts_from};
+    ghost use Rattle.contract_nodes.specs.Nodes.{stmts_in, TakesStmt};
+
+    // The statements from a place to an end.
+    fn new(contract: Contract<'a>, at: usize, end: usize, depth: usize) -> Self
+        requires { StandAll Class.statement contract.sheet.now at end depth }
+        ensures is { stmts_in result ≡ stmts_from contract.entry.sheet.now at end }
+        ensures same_sheet { result.contract.sheet.now ≡ contract.entry.sheet.now }
+        ensures span { (result.at ≡ at) × (result.end ≡ end) }
+        ensures depth { result.depth ≡ depth }
+    {
+        Stmts {
+            contract,
+            at,
+            end,
+            depth,
+        }
+    }
+
+    // Takes the first of them.
+    pub fn next(&mut self) -> Option<Stmt<'a>>
+        ensures { TakesStmt self.old self.new result }
+    {
+        if self.end <= self.at {
+            return None;
+        }
+        let stmt = Stmt {
+            contract: self.contract,
+            at: self.at,
+            depth: self.depth,
+        };
+        self.at += read(self.contract.sheet, self.at, 4);
+        Some(stmt)
+    }
+}

@@ -1,0 +1,3 @@
+pub mod Kinds
+pub mod Operators
+pub mod Contexts

@@ -1,0 +1,44 @@
+// What is lent: outside results and context words.
+ghost use Rattle.std.specs.Prelude.{◌≡◌};
+ghost use Rattle.machine_outside.specs.Outside.{TakesWord, context_of};
+
+use format::program::ContextKind;
+
+// The outside results, and how many of them are used.
+#[derive(Clone, Copy, Debug)]
+pub struct Outside<'a> {
+    pub words: &'a [u64],
+    pub used: usize,
+}
+
+impl Outside<'_> {
+    // Takes the first of those that are left.
+    pub fn next(&mut self) -> Option<u64>
+        ensures { TakesWord self.old self.new result }
+    {
+        let word = *self.words.get(self.used)?;
+        self.used += 1;
+        Some(word)
+    }
+}
+
+// The three context words.
+#[derive(Clone, Copy, Debug, PartialEq, Eq)]
+pub struct Context {
+    pub sender: u64,
+    pub nonce: u64,
+    pub height: u64,
+}
+
+impl Context {
+    // The word of a kind.
+    pub fn word(self, kind: ContextKind) -> u64
+        ensures { result ≡ context_of kind self }
+    {
+        match kind {
+            ContextKind::MsgSender => self.sender,
+            ContextKind::MsgNonce => self.nonce,
+            ContextKind::BlockNumber => self.height,
+        }
+    }
+}

@@ -1,0 +1,86 @@
+-- What the nodes' ghost fields say, as the lemmas of this crate have it. Assumes nothing.
+use mathlib.Core.Path.{◌≡◌, refl, ap, sym}
+use mathlib.Core.Bool.{true}
+use mathlib.Core.Option.{Option, some}
+use Prim.Native.Nat.{ℕ, ◌+◌, ◌≤◌}
+use native.Mathlib.Omega.{arith}
+use lib.ListN.{length}
+use borrow.Author.Tests.{leb-true}
+use Rattle.std.specs.Prelude.{Result, Ok, Err, IsErrAnd}
+use Rattle.definitions.specs.Fields.{le}
+use Rattle.definitions.specs.Records.{Bad}
+use Rattle.sheet.specs.declared.errors.Malformed.{Malformed}
+use Rattle.format.specs.Kinds.{instr_number, term_number}
+use Rattle.format.specs.declared.kinds.Instruction.{Instruction as InstrKind}
+use Rattle.format.specs.declared.kinds.Instruction.TheVariants as instr
+use Rattle.format.specs.declared.kinds.Terminator.{Terminator as TermKind}
+use Rattle.program_nodes.specs.Offsets.{own_at, right_at}
+use Rattle.definitions.specs.Ir.{IrType, result_type, unless_void}
+use Rattle.definitions.specs.InstrTable.{ResultRule, kind_row}
+use Rattle.ir.specs.Kinds.{rule_in}
+use Rattle.ir.specs.Types.{as_type}
+use Rattle.ir.specs.declared.IrType.{IrType as CodeType}
+use Rattle.ir.specs.declared.IrType.TheVariants as code
+use Rattle.program_nodes.specs.Nodes.{form_of, instr_in}
+use Rattle.program_nodes.proofs.InstrRows.{own_typed, type_fits}
+use Rattle.program_nodes.specs.Positions.{type_here, has_type, type_offset, own_rule, by_rule, size_here, term_size, InstrTo, TermPlace, FunctionHere}
+use Rattle.program_nodes.specs.declared.program.Program.{Program}
+use Rattle.program_nodes.specs.declared.program.Function.{Function}
+use Rattle.program_nodes.specs.declared.instr.Instr.{Instr}
+use Rattle.program_nodes.specs.declared.term.Term.{Term}
+use Rattle.program_nodes.proofs.Stand.{kept}
+use Rattle.program_nodes.proofs.KindNumbers.{IsBinary, binary_size}
+use Rattle.program_nodes.proofs.Walk.{head_fits, instr_alone, term_alone}
+use Rattle.program_nodes.proofs.FunctionSteps.{ProgramAt, program_at, function_here_is}
+
+pub program_is : (p : Program) → ProgramAt p.sheet.now
+program_is p = program_at p.sheet.now p.passed
+
+pub function_is : (f : Function) → FunctionHere f.program.sheet.now f.at f.first f.stop f.name.0
+function_is f = function_here_is (program_is f.program).records f.here
+
+pub instr_to : (i : Instr) → InstrTo i.sheet.now i.at i.stop (instr_number i.kind)
+instr_to i = instr_alone (kept i.here.0.0) i.here.0.1 i.here.1
+
+pub term_place : (t : Term) → TermPlace t.sheet.now t.at (term_number t.kind)
+term_place t = term_alone (kept t.here.0.0) t.here.0.1 t.here.1
+
+-- how far the fixed fields of an instruction and of a terminator reach, by the kind that a match told
+pub instr_fits : (i : Instr) {k : InstrKind} → i.kind ≡ k → (i.at + size_here (instr_number k) ≤ i.stop) × (i.stop ≤ length i.sheet.now)
+instr_fits i e = let I = instr_to i in rw (← e) (I.room, I.inside)
+
+pub term_fits : (t : Term) {k : TermKind} → t.kind ≡ k → t.at + term_size (term_number k) ≤ length t.sheet.now
+term_fits t e = rw (← e) (term_place t).fits
+
+pub instr_result_fits : (i : Instr) → i.at + own_at ≤ length i.sheet.now
+instr_result_fits i = head_fits (instr_to i).place
+
+pub binary_fits : (i : Instr) → IsBinary i.kind → i.at + (right_at + 2) ≤ length i.sheet.now
+binary_fits i b = let I = instr_to i in let e = binary_size i.kind b in omega (arith, I.room, I.inside, e)
+
+pub context_low : (i : Instr) → i.kind ≡ instr.ContextRead → le 2 i.sheet.now (i.at + own_at) ≤ 2
+context_low i e = let C = (instr_to i).place.context in leb-true _ _ (C (rw e refl))
+
+-- THE TYPE of an instruction's result, by its rule
+module _ (i : Instr) where
+  pub own_type_fits : has_type (instr_number i.kind) ≡ true → i.at + type_offset (instr_number i.kind) + 4 ≤ length i.sheet.now
+  own_type_fits h = let I = instr_to i in omega (arith, type_fits (instr_number i.kind) I.place.rules h, I.place.fits)
+
+  module _ {o : Option ResultRule} (e : o ≡ rule_in (kind_row (instr_number i.kind))) where
+    pub has_own_type : own_rule o ≡ true → has_type (instr_number i.kind) ≡ true
+    has_own_type h = own_typed (instr_number i.kind) (instr_to i).place.rules (rw e at h)
+
+    pub type_by_rule : {t : IrType} → t ≡ type_here i.sheet.now (i.at + type_offset (instr_number i.kind)) → by_rule o t ≡ result_type (instr_in i)
+    type_by_rule z = rw (e, z) (sym ((instr_to i).place.gives i.stop))
+
+pub unless : (t : CodeType) → (t ≡ code.Void → ⊥) → unless_void (as_type t) ≡ some (as_type t)
+unless code.U64 n = refl
+unless code.Bool n = refl
+unless code.Field n = refl
+unless (code.Struct x) n = refl
+unless code.Void n = absurd (n refl)
+
+-- a fault that is handed on
+pub fault_of : (r : Result Program Malformed) {x : Malformed} → IsErrAnd r (λ e. e ≡ x) → form_of r ≡ Bad x.0
+fault_of (Err e) h = ap (λ (m : Malformed). Bad m.0) h
+fault_of (Ok p) h = absurd h

@@ -1,0 +1,54 @@
+-- `program_nodes::program::Functions::next`: a function stands there, or none is left. Assumes nothing.
+use mathlib.Core.Path.{◌≡◌, refl, ap, sym, ◌∙◌, subst}
+use Prim.Native.Nat.{ℕ, ◌+◌}
+use native.Mathlib.Omega.{arith}
+use Rattle.program_nodes.specs.Standing.{FunctionsStand}
+use Rattle.program_nodes.proofs.Stand.{good, kept}
+use Rattle.program_nodes.proofs.FunctionSteps.{head_there, function_here_lem, no_functions, function_fits, first_is}
+use Rattle.program_nodes.proofs.Takes.{within, function_there, first_function}
+use Rattle.program_nodes.proofs.program.Functions.next.Goals as goal
+
+pub returns-then-len-at : goal.returns-then-len-at
+returns-then-len-at c = no_functions (kept c.args.self.now.here) (λ h k. omega (arith, h, c.len.ensures, c.if-len-at.true))
+
+pub overflow_add-at : goal.overflow_add-at
+overflow_add-at c = omega (arith, head_there (kept c.args.self.now.here) (within c.len.ensures c.if-len-at.false), c.len.ensures, c.len.type_inv)
+
+pub read_u16-requires : goal.read_u16-requires
+read_u16-requires c = omega (arith, head_there (kept c.args.self.now.here) (within c.len.ensures c.if-len-at.false))
+
+pub returns-then-read_u16-from : goal.returns-then-read_u16-from
+returns-then-read_u16-from c = no_functions (kept c.args.self.now.here) (λ h k. c.if-read_u16-from.true (c.read_u16.ensures ∙ (k ∙ sym c.from.ensures)))
+
+pub locals_at-locals-requires : goal.locals_at-locals-requires
+locals_at-locals-requires c = omega (arith, function_fits (function_there c.args.self.now (within c.len.ensures c.if-len-at.false) c.read_u16.ensures c.if-read_u16-from.false c.from.ensures))
+
+pub overflow_add-function : goal.overflow_add-function
+overflow_add-function c = omega (arith, function_fits (function_there c.args.self.now (within c.len.ensures c.if-len-at.false) c.read_u16.ensures c.if-read_u16-from.false c.from.ensures), c.locals_at-locals.ensures, c.len.ensures, c.len.type_inv)
+
+pub read-requires : goal.read-requires
+read-requires c = (omega (arith, function_fits (function_there c.args.self.now (within c.len.ensures c.if-len-at.false) c.read_u16.ensures c.if-read_u16-from.false c.from.ensures), c.locals_at-locals.ensures), omega arith)
+
+pub overflow_add-function-2 : goal.overflow_add-function-2
+overflow_add-function-2 c = omega (arith, function_fits (function_there c.args.self.now (within c.len.ensures c.if-len-at.false) c.read_u16.ensures c.if-read_u16-from.false c.from.ensures), first_is _ c.args.self.now.at _ c.locals_at-locals.ensures c.read.ensures.0, c.len.ensures, c.len.type_inv)
+
+pub read-requires-2 : goal.read-requires-2
+read-requires-2 c = (omega (arith, head_there (kept c.args.self.now.here) (within c.len.ensures c.if-len-at.false)), omega arith)
+
+pub overflow_add-function-3 : goal.overflow_add-function-3
+overflow_add-function-3 c = omega (arith, function_fits (function_there c.args.self.now (within c.len.ensures c.if-len-at.false) c.read_u16.ensures c.if-read_u16-from.false c.from.ensures), c.read-2.ensures.0, c.len.ensures, c.len.type_inv)
+
+pub read_u16-requires-2 : goal.read_u16-requires-2
+read_u16-requires-2 c = omega (arith, function_fits (function_there c.args.self.now (within c.len.ensures c.if-len-at.false) c.read_u16.ensures c.if-read_u16-from.false c.from.ensures))
+
+pub invariant_of-self : goal.invariant_of-self
+invariant_of-self c =
+    let w = c.args.self.now in
+    let F = function_here_lem (function_there w (within c.len.ensures c.if-len-at.false) c.read_u16.ensures c.if-read_u16-from.false c.from.ensures) in
+    record { here = subst (λ (x : ℕ). FunctionsStand w.program.sheet.now (w.at + x)) (sym c.read-2.ensures.0) (good F.next) }
+
+pub returns : goal.returns
+returns c =
+    let w = c.args.self.now in
+    let e = ap (λ (x : ℕ). w.at + x) c.read-2.ensures.0 in
+    first_function (function_there w (within c.len.ensures c.if-len-at.false) c.read_u16.ensures c.if-read_u16-from.false c.from.ensures) refl refl (first_is _ w.at _ c.locals_at-locals.ensures c.read.ensures.0) e refl e

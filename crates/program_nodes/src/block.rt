@@ -1,0 +1,117 @@
+// Blocks and their records.
+ghost use Rattle.program_nodes.specs.Standing.{BlocksStand, BlockStands, RecordsStand};
+
+use crate::instr::Instr;
+use crate::term::Term;
+use format::kinds::InBlock;
+use format::{KIND, program};
+use ir::BlockId;
+use reader::{read, read_u16};
+
+// The blocks that stand from a place to an end.
+#[derive(Clone, Copy, Debug)]
+pub struct Blocks<'a> {
+    pub sheet: &'a [u8],
+    pub at: usize,
+    pub end: usize,
+    pub ghost here: { BlocksStand sheet.now at end },
+}
+
+// A block by its place, and where it stops.
+#[derive(Clone, Copy, Debug)]
+pub struct Block<'a> {
+    pub sheet: &'a [u8],
+    pub at: usize,
+    pub stop: usize,
+    pub ghost here: { BlockStands sheet.now at stop },
+}
+
+// The records of a block from a place to its end.
+#[derive(Clone, Copy, Debug)]
+pub struct Records<'a> {
+    pub sheet: &'a [u8],
+    pub at: usize,
+    pub end: usize,
+    pub ghost here: { RecordsStand sheet.now at end },
+}
+
+// A record of a block: an instruction, or the terminator that it ends with.
+#[derive(Clone, Copy, Debug)]
+pub enum Record<'a> {
+    Instr(Instr<'a>),
+    Term(Term<'a>),
+}
+
+impl<'a> Blocks<'a> {
+    ghost use Rattle.program_nodes.specs.Nodes.{TakesBlock};
+
+    // Takes the first of them.
+    pub fn next(&mut self) -> Option<Block<'a>>
+        ensures { TakesBlock self.old self.new result }
+    {
+        let at = self.at;
+        if self.end <= at {
+            return None;
+        }
+        let stop = at + read(self.sheet, at, 4);
+        self.at = stop;
+        Some(Block {
+            sheet: self.sheet,
+            at,
+            stop,
+        })
+    }
+}
+
+impl<'a> Block<'a> {
+    ghost use Rattle.std.specs.Prelude.{◌≡◌};
+    ghost use Rattle.program_nodes.specs.Nodes.{block_in, RecordsOf};
+
+    pub fn id(self) -> BlockId
+        ensures { result.0 ≡ (block_in self.entry).id }
+    {
+        BlockId(read_u16(self.sheet, self.at + program::BLOCK_ID))
+    }
+
+    // Its instructions and its terminator.
+    pub fn records(self) -> Records<'a>
+        ensures { RecordsOf self.entry result }
+    {
+        Records {
+            sheet: self.sheet,
+            at: self.at + program::RECORDS,
+            end: self.stop,
+        }
+    }
+}
+
+impl<'a> Records<'a> {
+    ghost use Rattle.program_nodes.specs.Nodes.{TakesRecord};
+
+    // Takes the first of them.
+    pub fn next(&mut self) -> Option<Record<'a>>
+        ensures { TakesRecord self.old self.new result }
+    {
+        let sheet = self.sheet;
+        let at = self.at;
+        if self.end <= at {
+            return None;
+        }
+        let stop = at + read(sheet, at, 4);
+        self.at = stop;
+        match InBlock::try_from(read_u16(sheet, at + KIND)).unwrap() {
+            InBlock::Instruction(kind) => Some(Record::Instr(Instr {
+                sheet,
+                at,
+                stop,
+                kind,
+            })),
+            InBlock::Terminator(kind) => Some(Record::Term(Term {
+                sheet,
+                at,
+                stop,
+                kind,
+            })),
+        }
+    }
+}

@@ -1,0 +1,211 @@
+// Instructions and what they are.
+ghost use Rattle.std.specs.Prelude.{◌≡◌, ◌+◌, ◌*◌, ◌≤◌, length};
+ghost use Rattle.ir.specs.Types.{as_type};
+ghost use Rattle.program_nodes.specs.Standing.{InstrStands};
+ghost use Rattle.program_nodes.specs.Positions.{type_here};
+
+use format::program::ContextKind;
+use format::{ABSENT, ID, kinds, program};
+use ir::{FunctionId, IrType, LocalId, Name, ResultRule, ValueId};
+use reader::{read, read_u16};
+
+// The right operand of a Poseidon.
+const POSEIDON_RIGHT: usize = program::POSEIDON_LEFT + ID;
+
+// An instruction by its place and its kind, and where its record stops.
+#[derive(Clone, Copy, Debug)]
+pub struct Instr<'a> {
+    pub sheet: &'a [u8],
+    pub at: usize,
+    pub stop: usize,
+    pub kind: kinds::Instruction,
+    pub ghost here: { InstrStands sheet.now at stop kind },
+}
+
+// So many values from a place on: the arguments of a call or an event.
+#[derive(Clone, Copy, Debug)]
+pub struct Ids<'a> {
+    pub sheet: &'a [u8],
+    pub at: usize,
+    pub left: usize,
+    pub ghost inside: { at + 2 * left ≤ length sheet.now },
+}
+
+// What an instruction is (`Instruction` of `ir/mod.rs`). `Binary` stands for ten of the Rust's variants, Add to Ge, and has its kind.
+// An offset (i64) and a slot (i32) are the numbers of their 8 and 4 bytes.
+#[derive(Clone, Copy, Debug)]
+pub enum Instruction<'a> {
+    Const(IrType, usize),
+    Binary(kinds::Instruction, IrType, ValueId, ValueId),
+    Load(IrType, ValueId, usize),
+    Store(ValueId, usize, ValueId),
+    StateRead(IrType, usize),
+    StateWrite(usize, ValueId),
+    ReadLocal(LocalId, IrType),
+    WriteLocal(LocalId, ValueId),
+    Call(FunctionId, Ids<'a>, IrType),
+    Assert(ValueId),
+    Poseidon(ValueId, ValueId),
+    Emit(Name, Ids<'a>),
+    ContextRead(ContextKind),
+}
+
+// The type at a place.
+pub fn type_at(s: &[u8], at: usize) -> IrType
+    requires { at + 4 ≤ length s.now }
+    ensures { as_type result ≡ type_here s.now at }
+{
+    IrType::from_parts(read_u16(s, at), read_u16(s, at + ID))
+}
+
+impl<'a> Instr<'a> {
+    ghost use Rattle.std.specs.Prelude.{true, ◌-◌, ◌/◌};
+    ghost use Rattle.definitions.specs.Ir.{result_type};
+    ghost use Rattle.format.specs.Kinds.{instr_number};
+    ghost use Rattle.ir.specs.Answers.{option_of};
+    ghost use Rattle.program_nodes.specs.Positions.{ids_here, has_type, type_offset};
+    ghost use Rattle.program_nodes.specs.Nodes.{instr_in, instr_is, result_in, value_of, ids_in};
+
+    // The value that it defines, if there is one.
+    pub fn result(self) -> Option<ValueId>
+        ensures { option_of value_of result ≡ result_in self.entry }
+    {
+        let value = read_u16(self.sheet, self.at + program::RESULT);
+        if value == ABSENT {
+            None
+        } else {
+            Some(ValueId(value))
+        }
+    }
+
+    // The type among its own fields.
+    fn own_type(self) -> IrType
+        requires { has_type (instr_number self.kind) ≡ true }
+        ensures { as_type result ≡ type_here self.entry.sheet.now (self.entry.at + type_offset (instr_number self.entry.kind)) }
+    {
+        let offset = match self.kind {
+            kinds::Instruction::ReadLocal | kinds::Instruction::Call => program::TYPE_SECOND,
+            _ => program::TYPE_FIRST,
+        };
+        type_at(self.sheet, self.at + offset)
+    }
+
+    // The values that stand from an offset to its end.
+    fn values_from(self, offset: usize) -> Ids<'a>
+        requires { self.at + offset ≤ self.stop }
+        ensures { ids_in result ≡ ids_here ((self.entry.stop - (self.entry.at + offset)) / 2) self.entry.sheet.now (self.entry.at + offset) }
+    {
+        let at = self.at + offset;
+        Ids {
+            sheet: self.sheet,
+            at,
+            left: (self.stop - at) / ID,
+        }
+    }
+
+    // The type of its result, by the rule of its kind; None if it gives none.
+    pub fn result_type(self) -> Option<IrType>
+        ensures { option_of as_type result ≡ result_type (instr_in self.entry) }
+    {
+        match ir::kind_row(self.kind).result {
+            ResultRule::Own => Some(self.own_type()),
+            ResultRule::OwnUnlessVoid => match self.own_type() {
+                IrType::Void => None,
+                ty => Some(ty),
+            },
+            ResultRule::Bool => Some(IrType::Bool),
+            ResultRule::U64 => Some(IrType::U64),
+            ResultRule::None => None,
+        }
+    }
+
+    pub fn node(self) -> Instruction<'a>
+        ensures { instr_is result ≡ instr_in self.entry }
+    {
+        let s = self.sheet;
+        let q = self.at;
+        match self.kind {
+            kinds::Instruction::Const => Instruction::Const(
+                type_at(s, q + program::CONST_TYPE),
+                read(s, q + program::CONST_VALUE, 8),
+            ),
+            kinds::Instruction::Add
+            | kinds::Instruction::Sub
+            | kinds::Instruction::Mul
+            | kinds::Instruction::Div
+            | kinds::Instruction::Eq
+            | kinds::Instruction::Ne
+            | kinds::Instruction::Lt
+            | kinds::Instruction::Le
+            | kinds::Instruction::Gt
+            | kinds::Instruction::Ge => Instruction::Binary(
+                self.kind,
+                type_at(s, q + program::BINARY_TYPE),
+                ValueId(read_u16(s, q + program::LEFT)),
+                ValueId(read_u16(s, q + program::RIGHT)),
+            ),
+            kinds::Instruction::Load => Instruction::Load(
+                type_at(s, q + program::LOAD_TYPE),
+                ValueId(read_u16(s, q + program::LOAD_BASE)),
+                read(s, q + program::LOAD_OFFSET, 8),
+            ),
+            kinds::Instruction::Store => Instruction::Store(
+                ValueId(read_u16(s, q + program::STORE_BASE)),
+                read(s, q + program::STORE_OFFSET, 8),
+                ValueId(read_u16(s, q + program::STORED)),
+            ),
+            kinds::Instruction::StateRead => Instruction::StateRead(
+                type_at(s, q + program::STATE_READ_TYPE),
+                read(s, q + program::STATE_READ_SLOT, 4),
+            ),
+            kinds::Instruction::StateWrite => Instruction::StateWrite(
+                read(s, q + program::STATE_WRITE_SLOT, 4),
+                ValueId(read_u16(s, q + program::STATE_WRITTEN)),
+            ),
+            kinds::Instruction::ReadLocal => Instruction::ReadLocal(
+                LocalId(read_u16(s, q + program::READ_LOCAL)),
+                type_at(s, q + program::READ_LOCAL_TYPE),
+            ),
+            kinds::Instruction::WriteLocal => Instruction::WriteLocal(
+                LocalId(read_u16(s, q + program::WRITTEN_LOCAL)),
+                ValueId(read_u16(s, q + program::LOCAL_WRITTEN)),
+            ),
+            kinds::Instruction::Call => Instruction::Call(
+                FunctionId(read_u16(s, q + program::CALLEE)),
+                self.values_from(program::CALL_ARGS),
+                type_at(s, q + program::CALL_TYPE),
+            ),
+            kinds::Instruction::Assert => {
+                Instruction::Assert(ValueId(read_u16(s, q + program::ASSERTED)))
+            }
+            kinds::Instruction::Poseidon => Instruction::Poseidon(
+                ValueId(read_u16(s, q + program::POSEIDON_LEFT)),
+                ValueId(read_u16(s, q + POSEIDON_RIGHT)),
+            ),
+            kinds::Instruction::Emit => Instruction::Emit(
+                Name::new(read_u16(s, q + program::EVENT)),
+                self.values_from(program::EVENT_ARGS),
+            ),
+            kinds::Instruction::ContextRead => Instruction::ContextRead(ContextKind::try_from(
+                read_u16(s, q + program::CONTEXT),
+            ).unwrap()),
+        }
+    }
+}
+
+impl Ids<'_> {
+    ghost use Rattle.program_nodes.specs.Nodes.{TakesId};
+
+    // Takes the first of them.
+    pub fn next(&mut self) -> Option<ValueId>
+        ensures { TakesId self.old self.new result }
+    {
+        if self.left == 0 {
+            return None;
+        }
+        let value = ValueId(read_u16(self.sheet, self.at));
+        self.at += ID;
+        self.left -= 1;
+        Some(value)
+    }
+}

@@ -1,0 +1,86 @@
+-- What holds of every one of some entries or children, or fails for one. Assumes nothing.
+use Rattle.std.proofs.Common.{◌≡◌, ℕ, zero, suc, ◌+◌, ◌*◌, ◌<◌, refl, sym, ◌∙◌, ◌&&◌, Bool, true, false, List, [], ◌∷◌, length, get_or, arith}
+use Rattle.std.specs.Bool.{MatchBool}
+use Rattle.std.specs.List.{AllWithin, HoldsAt, range_with_len}
+use Rattle.std.proofs.lemmas.List.FromFn.{get_or-range_with_len, length-range_with_len}
+use native.Mathlib.Nat.{mul-suc, not-suc-le-zero}
+use Rattle.definitions.specs.Grammar.{Entry, Pattern}
+use Rattle.definitions.specs.Records.{size_of, ok_item, ok_items, may_end}
+use Rattle.sheet.specs.declared.tables.Child.{Child}
+use Rattle.sheet.specs.declared.tables.Often.{Often}
+use Rattle.sheet.specs.declared.tables.Often.TheVariants as often
+use Rattle.sheet.specs.Tables.{then_child, pattern_of}
+
+-- CHILDREN
+abbrev pub Spared : Child → Type 0
+Spared c = c.often ≡ often.Once → ⊥
+
+abbrev pub Needed : Child → Type 0
+Needed c = c.often ≡ often.Once
+
+pub needed : (c : Child) (p : Pattern) → Needed c → may_end (then_child c p) ≡ false
+unfolding may_end
+needed c p e = rw e
+
+pub spared : (c : Child) (p : Pattern) → Spared c → may_end (then_child c p) ≡ may_end p
+unfolding may_end
+spared c p f = go c.often refl
+  where
+    go : (o : Often) → c.often ≡ o → may_end (then_child c p) ≡ may_end p
+    go often.Once e = absurd (f e)
+    go often.AtMostOnce e = rw e
+    go often.Any e = rw e
+
+all_spared : (cs : List Child) → AllWithin Spared cs 0 (length cs) → may_end (pattern_of cs) ≡ true
+unfolding may_end
+all_spared [] f = refl
+all_spared (c ∷ cs) f = spared c (pattern_of cs) (f 0 c (omega arith) (omega arith)) ∙ all_spared cs (λ k d l h. f (suc k) d (omega arith) (omega arith))
+
+one_needed : (cs : List Child) (k : ℕ) → k < length cs → HoldsAt Needed cs k → may_end (pattern_of cs) ≡ false
+one_needed [] k h f = absurd (not-suc-le-zero h)
+one_needed (c ∷ cs) zero h f = needed c (pattern_of cs) (f c)
+one_needed (c ∷ cs) (suc k) h f = go c.often refl (one_needed cs k (omega arith) (λ d. f d))
+  where
+    go : (o : Often) → c.often ≡ o → may_end (pattern_of cs) ≡ false → may_end (then_child c (pattern_of cs)) ≡ false
+    go often.Once e r = needed c (pattern_of cs) e
+    go often.AtMostOnce e r = spared c (pattern_of cs) (λ q. cc) ∙ r
+    go often.Any e r = spared c (pattern_of cs) (λ q. cc) ∙ r
+
+pub ends : (cs : List Child) (r : Bool) → MatchBool r (AllWithin Spared cs 0 (length cs)) ((k : ℕ) × (k < length cs) × HoldsAt Needed cs k) → r ≡ may_end (pattern_of cs)
+ends cs true f = sym (all_spared cs f)
+ends cs false f = sym (one_needed cs f.0 f.1 f.2)
+
+-- ENTRIES
+module _ (e : Entry) (s : List ℕ) where
+  abbrev pub Valid : ℕ → ℕ → Type 0
+  Valid at i = ok_item e s (at + size_of e * i) ≡ true
+
+  abbrev pub Invalid : ℕ → ℕ → Type 0
+  Invalid at i = ok_item e s (at + size_of e * i) ≡ false
+
+  next_place : (at i : ℕ) → at + size_of e * suc i ≡ at + size_of e + size_of e * i
+  next_place at i = omega (arith, mul-suc (size_of e) i)
+
+  each_valid : (n at : ℕ) → ((i : ℕ) → i < n → Valid at i) → ok_items e n s at ≡ true
+  unfolding ok_items
+  each_valid zero at f = refl
+  each_valid (suc n) at f =
+      let z : at + size_of e * 0 ≡ at = omega arith in
+      rw (rw z at (f 0 (omega arith))) (each_valid n (at + size_of e) (λ i h. rw (next_place at i) at (f (suc i) (omega arith))))
+
+  one_invalid : (n at i : ℕ) → i < n → Invalid at i → ok_items e n s at ≡ false
+  unfolding ok_items
+  one_invalid zero at i h f = absurd (not-suc-le-zero h)
+  one_invalid (suc n) at zero h f = let z : at + size_of e * 0 ≡ at = omega arith in rw (rw z at f)
+  one_invalid (suc n) at (suc i) h f = go (ok_item e s at) (one_invalid n (at + size_of e) i (omega arith) (rw (next_place at i) at f))
+    where
+      go : (b : Bool) {r : Bool} → r ≡ false → b && r ≡ false
+      go true q = q
+      go false q = refl
+
+  pub valid : (n at : ℕ) (r : Bool) → MatchBool r (AllWithin (Valid at) (range_with_len 0 n) 0 (length (range_with_len 0 n))) ((k : ℕ) × (k < length (range_with_len 0 n)) × HoldsAt (Invalid at) (range_with_len 0 n) k) → r ≡ ok_items e n s at
+  valid n at true f = sym (each_valid n at (λ i h. let z : get_or (range_with_len 0 n) i 0 ≡ i = omega (arith, get_or-range_with_len 0 n i 0 h) in rw z at (f i 0 (omega arith) (omega (arith, length-range_with_len 0 n)))))
+  valid n at false f =
+      let h : f.0 < n = omega (arith, f.1, length-range_with_len 0 n) in
+      let z : get_or (range_with_len 0 n) f.0 0 ≡ f.0 = omega (arith, get_or-range_with_len 0 n f.0 0 h) in
+      sym (one_invalid n at f.0 h (rw z at (f.2 0)))
