@@ -68,7 +68,7 @@ fn type_in(e: u64) -> Ty
     if code == UNKNOWN_CODE {
         return Ty::Unknown;
     }
-    let t = IrType::from(code as u32);
+    let t = IrType::from(code);
     Ty::Known(t)
 }
 

@@ -134,12 +134,14 @@ impl From<IrType> for u32 {
 }
 
 // The type of a code.
-impl From<u32> for IrType {
+impl From<usize> for IrType {
     ghost from_gives = { λ code ty. as_type ty ≡ type_from (code % 65536) (code / 65536 % 65536) };
 
-    fn from(code: u32) -> IrType {
-        let code = code as usize;
-        IrType::from_parts((code % PER_NAME) as u16, (code / PER_NAME) as u16)
+    fn from(code: usize) -> IrType {
+        IrType::from_parts(
+            (code % PER_NAME) as u16,
+            (code / PER_NAME % PER_NAME) as u16,
+        )
     }
 }
 

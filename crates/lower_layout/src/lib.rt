@@ -133,7 +133,7 @@ fn lay_locals(n: usize, tables: &[u32], out: &mut [u8], to: usize) -> usize
     let mut i = 0;
     while i < n {
         let k = TYPES + i;
-        let code = u32::from(IrType::from(tables[k])) as usize;
+        let code = u32::from(IrType::from(tables[k] as usize)) as usize;
         write(out, place, 4, code);
         place += TYPE;
         i += 1;
