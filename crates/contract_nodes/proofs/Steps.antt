@@ -13,6 +13,7 @@ use Rattle.definitions.specs.Ast as ast
 use Rattle.definitions.specs.Grammar.{Class, Field, Pattern, done, one, many, rows}
 use Rattle.definitions.specs.Records.{row_in, opt_from, num_at, Tree, node, Trees}
 use Rattle.definitions.specs.ContractSheet.{expr_of, exprs_of, field_inits_of}
+use Rattle.definitions.specs.Lower.{count}
 use Rattle.definitions.proofs.Results.{by_test}
 use Rattle.definitions.proofs.Sheets.Lines.{OfRows, Given, by_lines}
 use Rattle.format.specs.Kinds.{Reads, expr_number, stmt_number}
@@ -26,10 +27,10 @@ use Rattle.format.specs.declared.operators.BinOp.{BinOp}
 use Rattle.format.specs.declared.operators.BinOp.TheVariants as op
 use Rattle.sheet.specs.Passed.{record_kind, stop_of, values_at}
 use Rattle.contract_nodes.specs.declared.contract.Param.{Param}
-use Rattle.contract_nodes.specs.Ready.{expr_at, fields_from, function_at, params_from, Stands, StandAll, Ready, ReadyAll}
+use Rattle.contract_nodes.specs.Ready.{expr_at, exprs_from, fields_from, function_at, params_from, Stands, StandAll, Ready, ReadyAll}
 use Rattle.contract_nodes.specs.Nodes.{param_is}
 use Rattle.contract_nodes.proofs.Children.{by_row, all_of, named, More, End}
-use Rattle.contract_nodes.proofs.ExprPlaces.{one_at}
+use Rattle.contract_nodes.proofs.ExprPlaces.{ArgsAt, one_at}
 use Rattle.contract_nodes.proofs.Standing.{stands, stand_all}
 use Rattle.contract_nodes.proofs.Tops.{FunctionAt}
 
@@ -42,6 +43,10 @@ all_to {c} {s} {at} {d = d} z r = subst (λ (y : ℕ). StandAll c s at y d) (sym
 
 pub all_at : {c : Class} {s : List ℕ} {a at e x d : ℕ} → a ≡ at → e ≡ x → ReadyAll c s at x d → StandAll c s a e d
 all_at {c} {s} {e = e} {d = d} w z r = subst (λ (y : ℕ). StandAll c s y e d) (sym w) (all_to z r)
+
+-- at most 16 expressions stand to an equal place
+pub args_few : {A : Type 0} {s : List ℕ} {at e d : ℕ} {t x : A} → e ≡ stop_of s at → ArgsAt s at d t x → count (exprs_from s (at + 8) e) ≤ 16
+args_few {s = s} {at = at} z g = rw z (omega (arith, g.few, g.count_is))
 
 -- KINDS: a record of a class has a number that is read as a kind
 pub is_ok : {K : Type 0} (number : K → ℕ) (n : ℕ) (r : Result K UnknownKind) → Reads number n r → (k : K) × (number k ≡ n) → IsOk r

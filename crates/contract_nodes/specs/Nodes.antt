@@ -90,7 +90,7 @@ ExprParts e (expr.MappingRead n x) = InExpr e x
 ExprParts e (expr.FieldAccess n x) = InExpr e x
 ExprParts e (expr.StructLiteral n fs) = (fs.contract.sheet.now ≡ e.contract.sheet.now) × (fs.depth + 1 ≡ e.depth)
 ExprParts e (expr.Binary op l r) = InExpr e l × InExpr e r
-ExprParts e (expr.Call n es) = (es.contract.sheet.now ≡ e.contract.sheet.now) × (es.depth + 1 ≡ e.depth)
+ExprParts e (expr.Call n es) = (es.contract.sheet.now ≡ e.contract.sheet.now) × (es.depth + 1 ≡ e.depth) × (count_of (exprs_in es) ≤ 16)
 
 -- the first of the expressions is taken
 pub record FirstExpr (old new : Exprs) (e : Expr) : Type 0 where
@@ -168,7 +168,7 @@ StmtParts t (stmt.While c b) = InStmt t c × SpanIn t b
 StmtParts t (stmt.For n a e b) = InStmt t a × InStmt t e × SpanIn t b × (t.at + 16 ≤ b.at)
 StmtParts t (stmt.Return None) = Unit {0}
 StmtParts t (stmt.Return (Some e)) = InStmt t e
-StmtParts t (stmt.Emit n es) = (es.contract.sheet.now ≡ t.contract.sheet.now) × (es.depth + 1 ≡ t.depth)
+StmtParts t (stmt.Emit n es) = (es.contract.sheet.now ≡ t.contract.sheet.now) × (es.depth + 1 ≡ t.depth) × (count_of (exprs_in es) ≤ 16)
 StmtParts t (stmt.Expr e) = InStmt t e
 
 pub record FirstStmt (old new : Stmts) (t : Stmt) : Type 0 where

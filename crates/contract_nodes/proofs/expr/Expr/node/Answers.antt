@@ -10,7 +10,7 @@ use Rattle.contract_nodes.proofs.Standing.{ready, stands}
 use Rattle.contract_nodes.proofs.Children.{bounds, size_fits}
 use Rattle.contract_nodes.proofs.ExprPlaces.{int_at, ident_at, storage_at, mapping_at, access_at, binary_at, call_at}
 use Rattle.contract_nodes.proofs.Parts.{stop_is, expr_long}
-use Rattle.contract_nodes.proofs.Steps.{is_ok, read_as, op_kind, stands_at, all_to, literal_at, below}
+use Rattle.contract_nodes.proofs.Steps.{is_ok, read_as, op_kind, stands_at, all_to, args_few, literal_at, below}
 use Rattle.contract_nodes.proofs.expr.Expr.node.Goals as goal
 
 pub read_u16-requires : goal.read_u16-requires
@@ -122,4 +122,7 @@ returns-in-Call-clause-is c =
     ∙ ap₂ (λ n p. Tree.Call e.at n (exprs_from e.contract.sheet.now (e.at + 8) p)) (sym (c.new-name.ensures ∙ c.read_u16.ensures)) (sym (stop_is e.contract.sheet.now e.at c.read.ensures.0))
 
 pub returns-in-Call-clause-parts : goal.returns-in-Call-clause-parts
-returns-in-Call-clause-parts c = (refl, below refl (bounds (ready c.args.self.ready)).deep)
+returns-in-Call-clause-parts c =
+    let e = c.args.self in
+    let r = ready e.ready in
+    (refl, below refl (bounds r).deep, args_few (stop_is e.contract.sheet.now e.at c.read.ensures.0) (call_at r (sym c.kind.ensures ∙ ap expr_number c.in-Call.is)))

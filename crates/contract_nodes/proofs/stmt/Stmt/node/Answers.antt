@@ -10,7 +10,7 @@ use Rattle.contract_nodes.proofs.Standing.{ready, stands}
 use Rattle.contract_nodes.proofs.Children.{Bounds, bounds, size_fits}
 use Rattle.contract_nodes.proofs.StmtPlaces.{let_at, constrain_at, assign_at, write_at, mapping_at, return_at, emit_at, expr_stmt_at}
 use Rattle.contract_nodes.proofs.Parts.{stop_is, let_long}
-use Rattle.contract_nodes.proofs.Steps.{stands_at, all_to, below}
+use Rattle.contract_nodes.proofs.Steps.{stands_at, all_to, args_few, below}
 use Rattle.contract_nodes.proofs.stmt.Stmt.node.Goals as goal
 
 of : (t : Stmt) → Ready Class.statement t.contract.sheet.now t.at t.depth
@@ -124,4 +124,4 @@ pub returns-in-Emit-clause-is : goal.returns-in-Emit-clause-is
 returns-in-Emit-clause-is c = (emit_at (of c.args.self) (sym c.kind.ensures ∙ ap stmt_number c.in-Emit.is)).is ∙ ap₂ (λ n p. Tree.Emit c.args.self.at n (exprs_from c.args.self.contract.sheet.now (c.args.self.at + 8) p)) (sym c.name-in-Emit.ensures) (sym c.end-in-Emit.ensures)
 
 pub returns-in-Emit-clause-parts : goal.returns-in-Emit-clause-parts
-returns-in-Emit-clause-parts c = (refl, below refl (in_bounds c.args.self).deep)
+returns-in-Emit-clause-parts c = (refl, below refl (in_bounds c.args.self).deep, args_few c.end-in-Emit.ensures (emit_at (of c.args.self) (sym c.kind.ensures ∙ ap stmt_number c.in-Emit.is)))
