@@ -62,6 +62,9 @@ module _ {s : List ℕ} {at n stop field position : ℕ} (S : Seeking s at n sto
     from_here : first_named name_of position (params_from s field (suc one_more.0)) n ≡ field_position (struct_of (tree_at s at)).fields n
     from_here = ap (λ (m : ℕ). first_named name_of position (params_from s field m) n) (sym one_more.1) ∙ S.is
 
+    pub position_low : position < 64
+    position_low = omega (arith, S.few, one_more.1)
+
     pub fits : field + 4 ≤ stop
     fits = omega (arith, S.ends, one_more.1)
 
@@ -76,10 +79,3 @@ module _ {s : List ℕ} {at n stop field position : ℕ} (S : Seeking s at n sto
       few = omega (arith, S.few, one_more.1);
       is = rw add-one (sym (first_not s n field position one_more.0 q) ∙ from_here);
     }
-
--- a position is below 64
-pub position_low : {s : List ℕ} {at d i : ℕ} (n : ℕ) → Ready Class.struct s at d → some i ≡ field_position (struct_of (tree_at s at)).fields n → i < 64
-position_low {s} {at} {d} {i} n R e =
-    let m : ℕ = (struct_at R).0 in
-    let S : StructAt s at m = (struct_at R).1 in
-    omega (arith, first_below name_of 0 (struct_of (tree_at s at)).fields n i (sym e), ap length S.fields, params_length s (at + 8) m, S.few)

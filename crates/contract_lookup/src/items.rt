@@ -138,7 +138,8 @@ impl<'a> Functions<'a> {
 
     // How many there are.
     pub fn len(&self) -> usize
-        ensures { result ≡ length (contract_in self.now.contract).functions }
+        ensures is { result ≡ length (contract_in self.now.contract).functions }
+        ensures most { result ≤ 64 }
     {
         self.count
     }

@@ -1,7 +1,6 @@
 // What a name stands for on a contract sheet: a type, a storage field, a struct and its fields, a function.
 #![tactic(auto)]
 
-pub mod by_place; // the same for lowering, by the places of records
 pub mod items; // the structs or functions, listed once, and the last of a name
 pub mod symbols; // storage fields, structs and functions by name
 pub mod types; // types by name

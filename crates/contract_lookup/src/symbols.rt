@@ -1,5 +1,5 @@
 // Storage fields, structs and functions by name: each of them the last of its name. The contract's record starts at 0, and its children at 8.
-ghost use Rattle.std.specs.Prelude.{◌≡◌, IfSome, eqb};
+ghost use Rattle.std.specs.Prelude.{◌≡◌, ◌<◌, IfSome, eqb};
 ghost use Rattle.definitions.specs.Lower.{struct_named, field_position};
 ghost use Rattle.definitions.specs.Records.{pick};
 ghost use Rattle.format.specs.Kinds.{item_number};
@@ -138,9 +138,10 @@ pub fn struct_named<'a>(contract: Contract<'a>, name: Name) -> Option<Struct<'a>
     })
 }
 
-// The position of the first field of a name.
+// The position of the first field of a name, which is below the most fields that a struct may have.
 pub fn field_position(of: Struct, name: Name) -> Option<usize>
-    ensures { option_of (λ i. i) result ≡ field_position (struct_in of.entry).fields name.0 }
+    ensures is { option_of (λ i. i) result ≡ field_position (struct_in of.entry).fields name.0 }
+    ensures most { IfSome result (λ i. i < 64) }
 {
     let s = of.contract.sheet;
     let stop = of.at + read(s, of.at, 4);
