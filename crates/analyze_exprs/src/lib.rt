@@ -65,8 +65,7 @@ fn analyze_literal(
     let Some(of) = a.structs.named(name) else {
         return Err(SemaError::UndefinedStruct(at));
     };
-    let mut inits = inits;
-    while let Some(init) = inits.next() {
+    for init in inits {
         let ty = analyze_expr(a, env, init.value)?;
         fields::check_field(of, at, init.name, ty)?;
     }
@@ -87,10 +86,9 @@ fn analyze_call(
     ensures { result_of error_of as_ty result ≡ check_call (contract_of a.now) env.now.names at name.0 (exprs_in args.entry) }
 {
     let callee = calls::callee_named(a, name);
-    let mut args = args;
     let mut n = 0;
     let mut fits = true;
-    while let Some(arg) = args.next() {
+    for arg in args {
         let ty = analyze_expr(a, env, arg)?;
         fits = fits && !differs(calls::param_ty(callee, n), ty);
         n += 1;

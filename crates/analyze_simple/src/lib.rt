@@ -38,8 +38,7 @@ pub fn analyze_args(a: &Analyzer, env: &Env, args: Exprs) -> Result<(), SemaErro
     requires { OfSheet a.now args.contract }
     ensures { env_after env.now result ≡ args_checked (contract_of a.now) env.now.names (exprs_in args.entry) }
 {
-    let mut args = args;
-    while let Some(arg) = args.next() {
+    for arg in args {
         analyze_expr(a, env, arg)?;
     }
     Ok(())

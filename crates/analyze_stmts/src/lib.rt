@@ -64,8 +64,7 @@ pub fn analyze_stmts(a: &Analyzer, env: &mut Env, body: Stmts) -> Result<(), Sem
     ensures is { env_after env.new result ≡ check_stmts (contract_of a.now) (ret_of a.now) (stmts_in body.entry) env.old.names }
     ensures grown { OnOk result (Grown env.old env.new body.entry.end) }
 {
-    let mut body = body;
-    while let Some(t) = body.next() {
+    for t in body {
         analyze_stmt(a, env, t)?;
     }
     Ok(())

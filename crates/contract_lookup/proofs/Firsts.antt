@@ -13,10 +13,8 @@ use Rattle.definitions.specs.Names.{first_named}
 use Rattle.definitions.specs.Lower.{field_position}
 use Rattle.definitions.specs.Grammar.{Class}
 use Rattle.definitions.specs.ContractSheet.{struct_of}
-use Rattle.definitions.proofs.Results.{first_below}
 use Rattle.sheet.specs.Passed.{stop_of}
 use Rattle.contract_nodes.specs.Ready.{Ready, tree_at, params_from}
-use Rattle.contract_nodes.proofs.Steps.{params_length}
 use Rattle.contract_nodes.proofs.Tops.{StructAt, struct_at}
 
 abbrev name_of : Param → ℕ

@@ -103,9 +103,9 @@ pub record FirstExpr (old new : Exprs) (e : Expr) : Type 0 where
   pub less : old.at < new.at
   pub within : new.at ≤ new.end
 
-abbrev pub TakesExpr : (old new : Exprs) → Option Expr → Type 0
-TakesExpr old new None = exprs_in old ≡ ast.enil
-TakesExpr old new (Some e) = FirstExpr old new e
+abbrev pub TakesExpr : Exprs → Option Expr → Exprs → Type 0
+TakesExpr old None new = exprs_in old ≡ ast.enil
+TakesExpr old (Some e) new = FirstExpr old new e
 
 pub record FirstField (old new : FieldInits) (f : FieldInit) : Type 0 where
   pub place : ℕ
@@ -118,9 +118,9 @@ pub record FirstField (old new : FieldInits) (f : FieldInit) : Type 0 where
   pub less : old.at < new.at
   pub within : new.at ≤ new.end
 
-abbrev pub TakesField : (old new : FieldInits) → Option FieldInit → Type 0
-TakesField old new None = fields_in old ≡ ast.fnil
-TakesField old new (Some f) = FirstField old new f
+abbrev pub TakesField : FieldInits → Option FieldInit → FieldInits → Type 0
+TakesField old None new = fields_in old ≡ ast.fnil
+TakesField old (Some f) new = FirstField old new f
 
 -- STATEMENTS: what a node is. The places of blocks are any.
 pub record IfIs (t : Stmt) (c : Expr) (a b : Stmts) : Type 0 where
@@ -183,6 +183,6 @@ pub record FirstStmt (old new : Stmts) (t : Stmt) : Type 0 where
   pub less : old.at < new.at
   pub within : new.at ≤ new.end
 
-abbrev pub TakesStmt : (old new : Stmts) → Option Stmt → Type 0
-TakesStmt old new None = (stmts_in old ≡ ast.snil) × (new.at ≡ old.at)
-TakesStmt old new (Some t) = FirstStmt old new t
+abbrev pub TakesStmt : Stmts → Option Stmt → Stmts → Type 0
+TakesStmt old None new = (stmts_in old ≡ ast.snil) × (new.at ≡ old.at)
+TakesStmt old (Some t) new = FirstStmt old new t

@@ -129,9 +129,9 @@ impl<'a> Expr<'a> {
     }
 }
 
-impl<'a> Exprs<'a> {
+impl Exprs<'_> {
     ghost use Rattle.std.specs.Prelude.{◌≡◌};
-    ghost use Rattle.contract_nodes.specs.Nodes.{exprs_in, count_of, TakesExpr};
+    ghost use Rattle.contract_nodes.specs.Nodes.{exprs_in, count_of};
 
     // How many there are.
     pub fn len(self) -> usize
@@ -139,11 +139,20 @@ impl<'a> Exprs<'a> {
     {
         sheet::places::count(self.contract.sheet, self.at, self.end)
     }
+}
 
-    // Takes the first of them.
-    pub fn next(&mut self) -> Option<Expr<'a>>
-        ensures { TakesExpr self.old self.new result }
-    {
+impl<'a> Iterator for Exprs<'a> {
+    ghost use Rattle.std.specs.Prelude.{◌-◌};
+    ghost use Rattle.std.specs.Iterator.{at_most};
+    ghost use Rattle.contract_nodes.specs.Nodes.{TakesExpr};
+
+    type Item = Expr<'a>;
+
+    ghost next_gives = { TakesExpr };
+
+    ghost remaining = { λ l. at_most (l.end - l.at) };
+
+    fn next(&mut self) -> Option<Expr<'a>> {
         if self.end <= self.at {
             return None;
         }
@@ -153,13 +162,18 @@ impl<'a> Exprs<'a> {
     }
 }
 
-impl<'a> FieldInits<'a> {
+impl<'a> Iterator for FieldInits<'a> {
+    ghost use Rattle.std.specs.Prelude.{◌-◌};
+    ghost use Rattle.std.specs.Iterator.{at_most};
     ghost use Rattle.contract_nodes.specs.Nodes.{TakesField};
 
-    // Takes the first of them.
-    pub fn next(&mut self) -> Option<FieldInit<'a>>
-        ensures { TakesField self.old self.new result }
-    {
+    type Item = FieldInit<'a>;
+
+    ghost next_gives = { TakesField };
+
+    ghost remaining = { λ l. at_most (l.end - l.at) };
+
+    fn next(&mut self) -> Option<FieldInit<'a>> {
         if self.end <= self.at {
             return None;
         }

@@ -2,7 +2,7 @@
 #![tactic(auto)]
 
 // `Exprs`, `FieldInits` and `Stmts` are no generic list: each reads as a list type of its own in the definitions, and a trait of their elements would need a class,
-// three readings and two laws, for two bodies of ten lines. `next` is no `Iterator`: it also says where the rest stands, and callers' measures rest on that.
+// three readings and two laws, for two bodies of ten lines.
 
 pub mod contract; // the contract, its items and what they have in them
 pub mod expr; // expressions

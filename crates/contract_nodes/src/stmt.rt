@@ -169,7 +169,7 @@ impl<'a> Stmt<'a> {
 impl<'a> Stmts<'a> {
     ghost use Rattle.std.specs.Prelude.{◌≡◌};
     ghost use Rattle.contract_nodes.specs.Ready.{stmts_from};
-    ghost use Rattle.contract_nodes.specs.Nodes.{stmts_in, TakesStmt};
+    ghost use Rattle.contract_nodes.specs.Nodes.{stmts_in};
 
     // The statements from a place to an end.
     fn new(contract: Contract<'a>, at: usize, end: usize, depth: usize) -> Self
@@ -186,11 +186,20 @@ impl<'a> Stmts<'a> {
             depth,
         }
     }
+}
 
-    // Takes the first of them.
-    pub fn next(&mut self) -> Option<Stmt<'a>>
-        ensures { TakesStmt self.old self.new result }
-    {
+impl<'a> Iterator for Stmts<'a> {
+    ghost use Rattle.std.specs.Prelude.{◌-◌};
+    ghost use Rattle.std.specs.Iterator.{at_most};
+    ghost use Rattle.contract_nodes.specs.Nodes.{TakesStmt};
+
+    type Item = Stmt<'a>;
+
+    ghost next_gives = { TakesStmt };
+
+    ghost remaining = { λ l. at_most (l.end - l.at) };
+
+    fn next(&mut self) -> Option<Stmt<'a>> {
         if self.end <= self.at {
             return None;
         }

@@ -75,26 +75,26 @@ analyze_expr-returns-in-Call t c = rw c.in-Call.ensures.is c.analyze_call.ensure
 
 -- A STRUCT LITERAL
 pub analyze_literal-loop-init-init : goal.analyze_literal-loop-init-init
-analyze_literal-loop-init-init t c = record { sheet = c.requires; depth = refl; is = defined _ _ _ _ _ c.in-Some.ensures.is }
+analyze_literal-loop-init-init t c = rw c.into_iter-init-iterator.ensures.into_iter_gives (record { sheet = c.requires; depth = refl; is = defined _ _ _ _ _ c.in-Some.ensures.is })
 
 pub analyze_literal-analyze_expr-requires : goal.analyze_literal-analyze_expr-requires
 analyze_literal-analyze_expr-requires t c =
-    let f = c.in-Some-next.ensures in
+    let f = c.in-Some-init.ensures.steps in
     (omega (arith, c.decreases, f.depth, c.loop-init.invariant.depth), f.sheet ∙ c.loop-init.invariant.sheet)
 
 pub analyze_literal-returns-in_err-ty : goal.analyze_literal-returns-in_err-ty
 analyze_literal-returns-in_err-ty t c =
     let p = err_from_is_err_and c.from_residual.result c.from_residual.ensures.1 in
-    rw (p.1, p.2) (value_refused _ _ _ _ _ c.in-Some-next.ensures.is c.loop-init.invariant.is c.in_err-ty.ensures)
+    rw (p.1, p.2) (value_refused _ _ _ _ _ c.in-Some-init.ensures.steps.is c.loop-init.invariant.is c.in_err-ty.ensures)
 
 pub analyze_literal-returns-in_err-check_field : goal.analyze_literal-returns-in_err-check_field
 analyze_literal-returns-in_err-check_field t c =
     let p = err_from_is_err_and c.from_residual-in_err-check_field.result c.from_residual-in_err-check_field.ensures.1 in
-    rw (p.1, p.2) (field_refused _ _ _ _ _ c.in-Some-next.ensures.is c.loop-init.invariant.is c.in_ok-ty.ensures c.in_err-check_field.ensures)
+    rw (p.1, p.2) (field_refused _ _ _ _ _ c.in-Some-init.ensures.steps.is c.loop-init.invariant.is c.in_ok-ty.ensures c.in_err-check_field.ensures)
 
 pub analyze_literal-loop-init-preserved : goal.analyze_literal-loop-init-preserved
 analyze_literal-loop-init-preserved t c =
-    let f = c.in-Some-next.ensures in
+    let f = c.in-Some-init.ensures.steps in
     record {
       sheet = f.rest_sheet ∙ c.loop-init.invariant.sheet;
       depth = f.rest_depth ∙ c.loop-init.invariant.depth;
@@ -102,39 +102,40 @@ analyze_literal-loop-init-preserved t c =
     }
 
 pub analyze_literal-returns : goal.analyze_literal-returns
-analyze_literal-returns t c = no_fields _ _ _ _ _ c.in_default-next.ensures c.loop-init.invariant.is
+analyze_literal-returns t c = no_fields _ _ _ _ _ c.in-None.ensures.steps c.loop-init.invariant.is
 
 -- A CALL
 pub analyze_call-loop-arg-init : goal.analyze_call-loop-arg-init
-analyze_call-loop-arg-init t c = record {
-  sheet = c.requires;
-  depth = refl;
-  few = omega arith;
-  left = rw c.callee_named-callee.ensures (call_starts _ _ _ _ _);
-}
+analyze_call-loop-arg-init t c =
+    rw c.into_iter-arg-iterator.ensures.into_iter_gives (record {
+      sheet = c.requires;
+      depth = refl;
+      few = omega arith;
+      left = rw c.callee_named-callee.ensures (call_starts _ _ _ _ _);
+    })
 
 pub analyze_call-analyze_expr-requires : goal.analyze_call-analyze_expr-requires
 analyze_call-analyze_expr-requires t c =
-    let f = c.in-Some.ensures in
+    let f = c.in-Some.ensures.steps in
     (omega (arith, c.decreases, f.depth, c.loop-arg.invariant.depth), f.sheet ∙ c.loop-arg.invariant.sheet)
 
 pub analyze_call-returns-in_err-ty : goal.analyze_call-returns-in_err-ty
 analyze_call-returns-in_err-ty t c =
     let p = err_from_is_err_and c.from_residual.result c.from_residual.ensures.1 in
-    rw (p.1, p.2) (refuses c.loop-arg.invariant.left c.in-Some.ensures.is c.in_err-ty.ensures)
+    rw (p.1, p.2) (refuses c.loop-arg.invariant.left c.in-Some.ensures.steps.is c.in_err-ty.ensures)
 
 pub analyze_call-overflow_add-n : goal.analyze_call-overflow_add-n
 analyze_call-overflow_add-n t c =
     let new = c.next.new.self in
-    omega (arith, c.in-Some.ensures.less, c.in-Some.ensures.within, c.loop-arg.invariant.few, new.ready.1, new.contract.passed.short)
+    omega (arith, c.in-Some.ensures.steps.less, c.in-Some.ensures.steps.within, c.loop-arg.invariant.few, new.ready.1, new.contract.passed.short)
 
 pub analyze_call-loop-arg-preserved : goal.analyze_call-loop-arg-preserved
 analyze_call-loop-arg-preserved t c = record {
-  sheet = c.in-Some.ensures.rest_sheet ∙ c.loop-arg.invariant.sheet;
-  depth = c.in-Some.ensures.rest_depth ∙ c.loop-arg.invariant.depth;
-  few = omega (arith, c.in-Some.ensures.less, c.loop-arg.invariant.few);
+  sheet = c.in-Some.ensures.steps.rest_sheet ∙ c.loop-arg.invariant.sheet;
+  depth = c.in-Some.ensures.steps.rest_depth ∙ c.loop-arg.invariant.depth;
+  few = omega (arith, c.in-Some.ensures.steps.less, c.loop-arg.invariant.few);
   left =
-      goes_on c.loop-arg.invariant.left c.in-Some.ensures.is c.in_ok-ty.ensures
+      goes_on c.loop-arg.invariant.left c.in-Some.ensures.steps.is c.in_ok-ty.ensures
       (elim c.if-fits.branch [
         | analyze_call-then-fits w ↦ still_fits _ w.if-fits.true w.fits-is w.differs.ensures w.param_ty.ensures
         | analyze_call-else-fits w ↦ fits_no_more _ w.if-fits.false w.fits-is
@@ -142,4 +143,4 @@ analyze_call-loop-arg-preserved t c = record {
 }
 
 pub analyze_call-returns : goal.analyze_call-returns
-analyze_call-returns t c = c.finish_call.ensures ∙ finishes c.loop-arg.invariant.left c.in_default.ensures
+analyze_call-returns t c = c.finish_call.ensures ∙ finishes c.loop-arg.invariant.left c.in-None.ensures.steps

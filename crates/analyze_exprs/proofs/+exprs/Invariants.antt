@@ -1,7 +1,7 @@
 -- The measures of the cycle of expressions, and the loops' invariants. Two for each level of depth, and a rank: the parts of an expression are one
 -- level down. Assumes nothing.
 use mathlib.Core.Path.{◌≡◌}
-use Prim.Native.Nat.{◌+◌, ◌-◌, ◌*◌, ◌≤◌}
+use Prim.Native.Nat.{◌+◌, ◌*◌, ◌≤◌}
 use Rattle.definitions.specs.Result.{◌>>◌, ok}
 use Rattle.definitions.specs.Ir.{IrType}
 use Rattle.definitions.specs.Analyze.{known}
@@ -25,22 +25,16 @@ decreases-analyze_call l = 2 * l.args.depth + 1
 -- the fields that are left give what the whole literal gives
 abbrev pub invariant-analyze_literal-loop-init : goal.invariant-analyze_literal-loop-init
 invariant-analyze_literal-loop-init l = record {
-  sheet : OfSheet l.a l.inits.contract;
-  depth : l.inits.depth ≡ l.fn.inits.depth;
-  is : (check_fields (contract_of l.a) l.env.names l.at (struct_in l.of).fields (fields_in l.inits) >> ok (known (IrType.Struct l.name.0))) ≡ check_literal (contract_of l.a) l.env.names l.at l.name.0 (fields_in l.fn.inits);
+  sheet : OfSheet l.a l.init-iterator.contract;
+  depth : l.init-iterator.depth ≡ l.fn.inits.depth;
+  is : (check_fields (contract_of l.a) l.env.names l.at (struct_in l.of).fields (fields_in l.init-iterator) >> ok (known (IrType.Struct l.name.0))) ≡ check_literal (contract_of l.a) l.env.names l.at l.name.0 (fields_in l.fn.inits);
 }
-
-abbrev pub decreases-analyze_literal-loop-init : goal.decreases-analyze_literal-loop-init
-decreases-analyze_literal-loop-init l = l.inits.end - l.inits.at
 
 -- the arguments that are left, after the types so far, give what the whole call gives; each takes a place
 abbrev pub invariant-analyze_call-loop-arg : goal.invariant-analyze_call-loop-arg
 invariant-analyze_call-loop-arg l = record {
-  sheet : OfSheet l.a l.args.contract;
-  depth : l.args.depth ≡ l.fn.args.depth;
-  few : l.n ≤ l.args.at;
-  left : Going (contract_of l.a) l.env.names l.at (callee_in l.callee) (check_call (contract_of l.a) l.env.names l.at l.fn.name.0 (exprs_in l.fn.args)) (exprs_in l.args) l.n l.fits;
+  sheet : OfSheet l.a l.arg-iterator.contract;
+  depth : l.arg-iterator.depth ≡ l.fn.args.depth;
+  few : l.n ≤ l.arg-iterator.at;
+  left : Going (contract_of l.a) l.env.names l.at (callee_in l.callee) (check_call (contract_of l.a) l.env.names l.at l.fn.name.0 (exprs_in l.fn.args)) (exprs_in l.arg-iterator) l.n l.fits;
 }
-
-abbrev pub decreases-analyze_call-loop-arg : goal.decreases-analyze_call-loop-arg
-decreases-analyze_call-loop-arg l = l.args.end - l.args.at

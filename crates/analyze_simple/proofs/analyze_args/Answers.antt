@@ -6,14 +6,14 @@ use Rattle.analyze_simple.proofs.analyze_args.Goals as goal
 
 pub loop-arg-preserved : goal.loop-arg-preserved
 loop-arg-preserved c = record {
-  sheet = c.in-Some.ensures.rest_sheet ∙ c.loop-arg.invariant.sheet;
-  is = first_typed _ _ c.loop-arg.invariant.is c.in-Some.ensures.is c.in_ok-analyze_expr.ensures;
+  sheet = c.in-Some.ensures.steps.rest_sheet ∙ c.loop-arg.invariant.sheet;
+  is = first_typed _ _ c.loop-arg.invariant.is c.in-Some.ensures.steps.is c.in_ok-analyze_expr.ensures;
 }
 
 pub returns-in_err-analyze_expr : goal.returns-in_err-analyze_expr
 returns-in_err-analyze_expr c =
     let p = err_from_is_err_and c.from_residual.result c.from_residual.ensures.1 in
-    rw (p.1, p.2) (first_refused _ _ c.loop-arg.invariant.is c.in-Some.ensures.is c.in_err-analyze_expr.ensures)
+    rw (p.1, p.2) (first_refused _ _ c.loop-arg.invariant.is c.in-Some.ensures.steps.is c.in_err-analyze_expr.ensures)
 
 pub returns : goal.returns
-returns c = none_left _ _ c.loop-arg.invariant.is c.in_default.ensures
+returns c = none_left _ _ c.loop-arg.invariant.is c.in-None.ensures.steps

@@ -110,7 +110,7 @@ analyze_stmt-returns-in_ok-analyze_stmts-in-For-clause-grown t c =
 pub analyze_stmts-loop-t-preserved : goal.analyze_stmts-loop-t-preserved
 analyze_stmts-loop-t-preserved t c =
     let i = c.loop-t.invariant in
-    let f = c.in-Some.ensures in
+    let f = c.in-Some.ensures.steps in
     record {
       sheet = f.rest_sheet ∙ i.sheet;
       depth = f.rest_depth ∙ i.depth;
@@ -122,12 +122,12 @@ analyze_stmts-loop-t-preserved t c =
 pub analyze_stmts-returns-in_err-analyze_stmt-clause-is : goal.analyze_stmts-returns-in_err-analyze_stmt-clause-is
 analyze_stmts-returns-in_err-analyze_stmt-clause-is t c =
     let p = err_from_is_err_and c.from_residual.result c.from_residual.ensures.1 in
-    rw (p.1, p.2) (first_is _ _ _ c.in-Some.ensures.is c.in_err-analyze_stmt.ensures.is ∙ c.loop-t.invariant.is)
+    rw (p.1, p.2) (first_is _ _ _ c.in-Some.ensures.steps.is c.in_err-analyze_stmt.ensures.is ∙ c.loop-t.invariant.is)
 
 pub analyze_stmts-returns-clause-is : goal.analyze_stmts-returns-clause-is
-analyze_stmts-returns-clause-is t c = none_is _ _ _ c.in_default.ensures.0 ∙ c.loop-t.invariant.is
+analyze_stmts-returns-clause-is t c = none_is _ _ _ c.in-None.ensures.steps.0 ∙ c.loop-t.invariant.is
 
 pub analyze_stmts-returns-clause-grown : goal.analyze_stmts-returns-clause-grown
 analyze_stmts-returns-clause-grown t c =
-    let b = c.loop-t.body in
+    let b = c.loop-t.t-iterator in
     up_to c.loop-t.invariant.grown (omega (arith, in_order Class.statement b.contract.sheet.now b.at b.end b.depth b.ready, c.loop-t.invariant.end))

@@ -1,6 +1,6 @@
 -- The measures of the cycle of statements, and the loop's invariant. Two for each level of depth, and a rank. Assumes nothing.
 use mathlib.Core.Path.{◌≡◌}
-use Prim.Native.Nat.{◌+◌, ◌-◌, ◌*◌}
+use Prim.Native.Nat.{◌+◌, ◌*◌}
 use Rattle.contract_nodes.specs.Nodes.{stmts_in}
 use Rattle.analyze_walk.specs.Stops.{check_stmts}
 use Rattle.analyze_state.specs.State.{contract_of, ret_of, OfSheet}
@@ -16,12 +16,9 @@ decreases-analyze_stmts l = 2 * l.body.depth + 1
 -- the statements that are left, with the names so far, give what all of them give
 abbrev pub invariant-analyze_stmts-loop-t : goal.invariant-analyze_stmts-loop-t
 invariant-analyze_stmts-loop-t l = record {
-  sheet : OfSheet l.a l.body.contract;
-  depth : l.body.depth ≡ l.fn.body.depth;
-  end : l.body.end ≡ l.fn.body.end;
-  grown : Grown l.fn.env l.env l.body.at;
-  is : check_stmts (contract_of l.a) (ret_of l.a) (stmts_in l.body) l.env.names ≡ check_stmts (contract_of l.a) (ret_of l.a) (stmts_in l.fn.body) l.fn.env.names;
+  sheet : OfSheet l.a l.t-iterator.contract;
+  depth : l.t-iterator.depth ≡ l.fn.body.depth;
+  end : l.t-iterator.end ≡ l.fn.body.end;
+  grown : Grown l.fn.env l.env l.t-iterator.at;
+  is : check_stmts (contract_of l.a) (ret_of l.a) (stmts_in l.t-iterator) l.env.names ≡ check_stmts (contract_of l.a) (ret_of l.a) (stmts_in l.fn.body) l.fn.env.names;
 }
-
-abbrev pub decreases-analyze_stmts-loop-t : goal.decreases-analyze_stmts-loop-t
-decreases-analyze_stmts-loop-t l = l.body.end - l.body.at
