@@ -40,7 +40,7 @@ pub struct Param {
 }
 
 impl<'a> Contract<'a> {
-    ghost use Rattle.std.specs.Prelude.{◌≡◌, Ok, Err, IfOk};
+    ghost use Rattle.std.specs.Prelude.{◌≡◌, IfOk};
     ghost use Rattle.definitions.specs.Answers.{check_contract};
     ghost use Rattle.ir.specs.Answers.{result_of};
     ghost use Rattle.sheet.specs.Forms.{refusal_of};
@@ -69,7 +69,6 @@ impl Struct<'_> {
 
 impl<'a> Function<'a> {
     ghost use Rattle.std.specs.Prelude.{◌≡◌, ◌+◌, ◌≤◌, ◌<◌, length};
-    ghost use Rattle.definitions.specs.Records.{opt_from};
     ghost use Rattle.contract_nodes.specs.Nodes.{function_in, stmts_in, param_is, opt_name};
 
     pub fn name(self) -> Name

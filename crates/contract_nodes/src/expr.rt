@@ -1,5 +1,4 @@
 // Expressions.
-ghost use Rattle.std.specs.Prelude.{◌≤◌};
 ghost use Rattle.definitions.specs.Grammar.{Class};
 ghost use Rattle.contract_nodes.specs.Ready.{Stands, StandAll};
 
