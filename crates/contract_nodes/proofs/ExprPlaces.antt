@@ -29,29 +29,6 @@ expr_rows =
 pub expr_kinds : {s : List ℕ} {at d : ℕ} → Ready Class.expression s at d → (30 ≤ record_kind s at) × (record_kind s at ≤ 37)
 expr_kinds r = by_row Kinds expr_rows r
 
--- one of 30 to 36, or the last
-abbrev pub Last : ℕ → Type 0
-Last k = (k ≡ 30 → ⊥) → (k ≡ 31 → ⊥) → (k ≡ 32 → ⊥) → (k ≡ 33 → ⊥) → (k ≡ 34 → ⊥) → (k ≡ 35 → ⊥) → (k ≡ 36 → ⊥) → k ≡ 37
-
-abbrev Ends : Class → ℕ → List Field → Pattern → Type 0
-Ends c k fs p = Last k
-
-last_rows : OfRows Ends Class.expression rows
-unfolding Given rows
-last_rows =
-    by_lines Ends Class.expression rows
-    (λ a b c d e f g. absurd (a refl))
-    (λ a b c d e f g. absurd (b refl))
-    (λ a b c d e f g. absurd (c refl))
-    (λ a b c d e f g. absurd (d refl))
-    (λ a b c d e f g. absurd (e refl))
-    (λ a b c d e f g. absurd (f refl))
-    (λ a b c d e f g. absurd (g refl))
-    (λ a b c d e f g. refl)
-
-pub last_kind : {s : List ℕ} {at d : ℕ} → Ready Class.expression s at d → Last (record_kind s at)
-last_kind r = by_row Ends last_rows r
-
 -- A RECORD READ BY `of`: an expression or a statement that has a name, perhaps one expression, or at most 16 of them
 pub count_is : (ts : Trees) → count (exprs_of ts) ≡ count_trees ts
 unfolding expr_of count_trees

@@ -18,32 +18,6 @@ use Rattle.contract_nodes.specs.Ready.{tree_at, expr_at, exprs_from, stmt_at, st
 use Rattle.contract_nodes.proofs.Children.{First, all_of, one_first, perhaps_next, last_first, nothing_left, at_end, bounds, by_row, Named, named, Plain, plain}
 use Rattle.contract_nodes.proofs.ExprPlaces.{expr_kinds, OneAt, ArgsAt, one_at, args_at}
 
--- one of 10 to 19, or the last
-abbrev pub Last : ℕ → Type 0
-Last k = (k ≡ 10 → ⊥) → (k ≡ 11 → ⊥) → (k ≡ 12 → ⊥) → (k ≡ 13 → ⊥) → (k ≡ 14 → ⊥) → (k ≡ 15 → ⊥) → (k ≡ 16 → ⊥) → (k ≡ 17 → ⊥) → (k ≡ 18 → ⊥) → (k ≡ 19 → ⊥) → k ≡ 20
-
-abbrev Ends : Class → ℕ → List Field → Pattern → Type 0
-Ends c k fs p = Last k
-
-last_rows : OfRows Ends Class.statement rows
-unfolding Given rows
-last_rows =
-    by_lines Ends Class.statement rows
-    (λ a b c d e f g h i j. absurd (a refl))
-    (λ a b c d e f g h i j. absurd (b refl))
-    (λ a b c d e f g h i j. absurd (c refl))
-    (λ a b c d e f g h i j. absurd (d refl))
-    (λ a b c d e f g h i j. absurd (e refl))
-    (λ a b c d e f g h i j. absurd (f refl))
-    (λ a b c d e f g h i j. absurd (g refl))
-    (λ a b c d e f g h i j. absurd (h refl))
-    (λ a b c d e f g h i j. absurd (i refl))
-    (λ a b c d e f g h i j. absurd (j refl))
-    (λ a b c d e f g h i j. refl)
-
-pub last_kind : {s : List ℕ} {at d : ℕ} → Ready Class.statement s at d → Last (record_kind s at)
-last_kind r = by_row Ends last_rows r
-
 -- A NAME AND AN EXPRESSION: Let, Assign, StorageWrite
 pub let_at : {s : List ℕ} {at d : ℕ} → Ready Class.statement s at d → record_kind s at ≡ 10 → OneAt s at d (stmt_at s at) (Stmt.Let at (le 2 s (at + 6)) (expr_at s (at + 8)))
 unfolding row_in rows stmt_of
