@@ -39,6 +39,7 @@ pub struct Functions<'a> {
 }
 
 // Stores the places of the structs or functions in their order, and gives their count. None comes after a record of a higher kind.
+// A loop of its own: over an iterator of the places of a kind's records, shared with `last_named`, it takes five percent longer.
 fn places_of(contract: Contract, kind: Item, places: &mut [u32]) -> usize
     requires not_storage { 3 ≤ item_number kind }
     requires in_bounds { 64 ≤ length places.old }

@@ -42,7 +42,7 @@ pub(crate) fn past(s: &[u8], at: usize, kind: u16) -> usize
     at + read(s, at, 4)
 }
 
-// The last record of a kind that has a name. None comes after a record of a higher kind.
+// The last record of a kind that has a name. None comes after a record of a higher kind. A loop of its own, as `places_of` and for its reason.
 fn last_named(contract: Contract, kind: Item, name: Name) -> Option<Found>
     ensures is { found_in contract.entry.sheet.now result ≡ last_of contract.entry.sheet.now (item_number kind) name.0 }
     ensures stands { StandsAt contract.entry.sheet.now (item_number kind) result }
