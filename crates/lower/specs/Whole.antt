@@ -1,8 +1,8 @@
 -- The parts of lowering that lead from the walk of each function to the answer. Untrusted, but for `answer_of`, which gives document
 -- 01's number and values for each answer.
-use Rattle.std.specs.Prelude.{ℕ, ◌+◌, ◌≤◌, ◌<◌, ◌≡◌, ◌&&◌, List, [], ◌∷◌, leb, length, take}
+use Rattle.std.specs.Prelude.{ℕ, ◌+◌, ◌≤◌, ◌<◌, ◌≡◌, ◌&&◌, List, [], ◌∷◌, ◌++◌, leb, length, take}
 use Rattle.std.specs.Prelude as code
-use Rattle.std.proofs.lemmas.List.Edits.{sets}
+use Rattle.definitions.specs.Fields.{bytes}
 use Rattle.definitions.specs.Result.{Result, err, ok, ◌>>=◌, ◌>>◌, map_err, check}
 use Rattle.definitions.specs.Ast.{Function, Contract}
 use Rattle.definitions.specs.Ir.{IrFunction}
@@ -14,25 +14,28 @@ use Rattle.definitions.specs.Answers.{Refusal, refusal, lower_refusal, length_of
 use Rattle.ir.specs.Answers.{result_of}
 use Rattle.sheet.specs.Forms as forms
 use Rattle.lower_state.specs.Errors.{error_of}
-use Rattle.lower_state.specs.declared.LoweringError.{LoweringError}
-use Rattle.lower_layout.specs.Laid.{room_of}
+use Rattle.lower_state.specs.declared.refusals.LoweringError.{LoweringError}
+use Rattle.lower_layout.specs.Laid.{Laid}
 use Rattle.lower.specs.declared.refusal.Refusal as lowering
 use Rattle.lower.specs.declared.refusal.Refusal.TheVariants as refused
 
--- FUNCTIONS: like Laid, but any place over the room says that something did not fit
-pub record Filled (x before : List ℕ) (to : ℕ) (after : List ℕ) (r : ℕ) : Type 0 where
-  pub same_length : length after ≡ length before
-  pub fits : to + length x ≤ room_of (length before) → (after ≡ sets before to x) × (r ≡ to + length x)
-  pub over : room_of (length before) < to + length x → room_of (length before) < r
+-- FUNCTIONS: x is laid down at `to`, if all before it fitted
+abbrev pub LaidFrom : (x before : List ℕ) → code.Option ℕ → (after : List ℕ) → code.Option ℕ → Type 0
+LaidFrom x before (code.Some to) after r = Laid x before to after r
+LaidFrom x before code.None after r = (length after ≡ length before) × (r ≡ code.None)
 
 -- the function f with id i
-abbrev pub FunctionPlaced : Contract → ℕ → Function → (before : List ℕ) (to : ℕ) (after : List ℕ) → code.Result ℕ LoweringError → Type 0
-FunctionPlaced K i f before to after (code.Ok r) = (g : IrFunction) × ((lower_function K i f ≡ ok g) × Filled (write_tree (ir_function_tree g)) before to after r)
+abbrev pub FunctionPlaced : Contract → ℕ → Function → (before : List ℕ) (to : code.Option ℕ) (after : List ℕ) → code.Result (code.Option ℕ) LoweringError → Type 0
+FunctionPlaced K i f before to after (code.Ok r) = (g : IrFunction) × ((lower_function K i f ≡ ok g) × LaidFrom (write_tree (ir_function_tree g)) before to after r)
 FunctionPlaced K i f before to after (code.Err e) = (lower_function K i f ≡ err (error_of e)) × (length after ≡ length before)
 
-abbrev pub FunctionsPlaced : Contract → (before after : List ℕ) → code.Result ℕ LoweringError → Type 0
-FunctionsPlaced K before after (code.Ok r) = (gs : List IrFunction) × ((lower_functions K 0 K.functions ≡ ok gs) × Filled (write_trees (treesOf ir_function_tree gs tnil)) before 6 after r)
+abbrev pub FunctionsPlaced : Contract → (before after : List ℕ) → code.Result (code.Option ℕ) LoweringError → Type 0
+FunctionsPlaced K before after (code.Ok r) = (gs : List IrFunction) × ((lower_functions K 0 K.functions ≡ ok gs) × Laid (write_trees (treesOf ir_function_tree gs tnil)) before 6 after r)
 FunctionsPlaced K before after (code.Err e) = (lower_functions K 0 K.functions ≡ err (error_of e)) × (length after ≡ length before)
+
+-- the program's head
+abbrev pub head_bytes : ℕ → List ℕ
+head_bytes n = bytes 4 n ++ bytes 2 50
 
 -- ANSWERS: document 01's number and values for each
 abbrev pub refusal_of : lowering.Refusal → Refusal

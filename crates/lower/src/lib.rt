@@ -1,100 +1,87 @@
 // Lowering: from any bytes to a program sheet or one numbered refusal.
 #![tactic(auto)]
 
-ghost use Rattle.std.specs.Prelude.{◌≡◌, List, ℕ, ◌<◌, length, take, IfOk};
+ghost use Rattle.std.specs.Prelude.{◌≡◌, ℕ, ◌≤◌, length, take, IfOk};
+ghost use Rattle.std.proofs.lemmas.List.Edits.{sets};
 ghost use Rattle.definitions.specs.Answers.{lower_sheet, length_of, output_of};
-ghost use Rattle.definitions.specs.ContractSheet.{read_contract};
 ghost use Rattle.definitions.specs.Demand3.{Demand3Of};
-ghost use Rattle.definitions.specs.Grammar.{Class};
-ghost use Rattle.contract_nodes.specs.Ready.{Ready, function_at};
-ghost use Rattle.sheet.specs.Passed.{ContractPassed};
-ghost use Rattle.lower_layout.specs.Laid.{room_of};
-ghost use Rattle.lower.specs.Whole.{FunctionPlaced, FunctionsPlaced, Filled, Finished, answer_of, lower_rest, AnsweredWith, written_by};
+ghost use Rattle.contract_nodes.specs.Nodes.{contract_in, function_in};
+ghost use Rattle.lower.specs.Whole.{FunctionPlaced, FunctionsPlaced, head_bytes, answer_of, lower_rest, AnsweredWith, written_by};
 
-use format::{HEAD, KIND, MOST, contract, kinds};
+use contract_lookup::items::Functions;
+use contract_nodes::{Contract, Function};
+use format::kinds::Kind;
+use format::{HEAD, KIND};
 use ir::FunctionId;
-use lower_flow::Step;
-use lower_flow::make::count;
 use lower_functions::lower_function;
 use lower_layout::lay_function;
-use lower_state::{Log, LoweringError, TABLES, Tables};
-use reader::read;
+use lower_name_table::lay_names;
+use lower_state::{FnCtx, LoweringError};
 use writer::{clear, write};
 
 pub mod refusal; // why there is no program sheet
 
 pub use refusal::Refusal;
 
-// The function at a place: it is walked, and then laid down at `to`. Gives the place after it.
+// A function: it is walked, and then laid down at `to`, if all before it fitted. Gives the place behind it.
 fn place_function(
-    s: &[u8],
-    at: usize,
-    function: FunctionId,
-    log: &mut Log,
-    tables: &mut Tables,
+    ctx: &mut FnCtx,
+    f: Function,
+    id: FunctionId,
     out: &mut [u8],
-    to: usize,
-) -> Result<usize, LoweringError>
-    requires { ContractPassed s.now × Ready Class.function s.now at 39 }
-    ensures { FunctionPlaced (read_contract s.now) function.0 (function_at s.now at) out.old to out.new result }
+    to: Option<usize>,
+) -> Result<Option<usize>, LoweringError>
+    ensures { FunctionPlaced (contract_in f.entry.contract) id.0 (function_in f.entry) out.old to out.new result }
 {
-    count(tables);
-    let step = lower_function(s, at, function, log, tables);
-    match step {
-        Step::Next(ctx) => Ok(lay_function(s, at, function, ctx, log, tables, out, to)),
-        Step::Refused(e) => Err(e),
-    }
+    lower_function(ctx, f, id)?;
+    let Some(at) = to else {
+        return Ok(None);
+    };
+    Ok(lay_function(f, id, ctx, out, at))
 }
 
 // All functions, each behind the last.
-fn place_functions(s: &[u8], out: &mut [u8]) -> Result<usize, LoweringError>
-    requires { ContractPassed s.now }
-    ensures { FunctionsPlaced (read_contract s.now) out.old out.new result }
+fn place_functions(
+    functions: &Functions,
+    out: &mut [u8],
+) -> Result<Option<usize>, LoweringError>
+    ensures { FunctionsPlaced (contract_in functions.now.contract) out.old out.new result }
 {
-    let mut log = [0u8; MOST];
-    let mut tables = [0u32; TABLES];
-    let mut to = HEAD;
-    let mut i: u16 = 0;
-    let mut at = contract::CHILDREN;
-    while at < s.len() {
-        if read(s, at + KIND, 2) == kinds::FUNCTION {
-            to = place_function(s, at, FunctionId(i), &mut log, &mut tables, out, to)?;
-            i += 1;
-        }
-        at += read(s, at, 4);
+    let mut ctx = FnCtx::new(FunctionId(0));
+    let mut to = Some(HEAD);
+    for i in 0..functions.len() {
+        let f = functions.get(i).unwrap();
+        to = place_function(&mut ctx, f, FunctionId(i as u16), out, to)?;
     }
     Ok(to)
 }
 
 // The program's head, once its length is known.
-fn finish(out: &mut [u8], to: usize) -> Result<usize, Refusal>
-    requires { to < 6 → room_of (length out.old) < to }
-    ensures { (before body : List ℕ) → Filled body before 6 out.old to → Finished body (length before) out.new result }
+fn write_head(out: &mut [u8], end: usize)
+    requires { 6 ≤ length out.old }
+    ensures { out.new ≡ sets out.old 0 (head_bytes end) }
 {
-    if lower_layout::room(out) < to {
-        return Err(Refusal::NoRoom);
-    }
-    write(out, 0, 4, to);
-    write(out, KIND, 2, kinds::PROGRAM);
-    Ok(to)
+    write(out, 0, 4, end);
+    write(out, KIND, 2, u16::from(Kind::Program) as usize);
 }
 
 // A contract sheet that passed its check.
-fn lower_contract(s: &[u8], out: &mut [u8]) -> Result<usize, Refusal>
-    requires { ContractPassed s.now }
-    ensures { AnsweredWith (lower_rest (read_contract s.now) (length out.old)) (length out.old) out.new result }
+fn lower_contract(contract: Contract, out: &mut [u8]) -> Result<usize, Refusal>
+    ensures { AnsweredWith (lower_rest (contract_in contract.entry) (length out.old)) (length out.old) out.new result }
 {
-    let to = place_functions(s, out)?;
-    let end = lower_name_table::lay_names(s, out, to);
-    finish(out, end)
+    let functions = Functions::new(contract);
+    let to = place_functions(&functions, out)?.ok_or(Refusal::NoRoom)?;
+    let end = lay_names(&functions, out, to).ok_or(Refusal::NoRoom)?;
+    write_head(out, end);
+    Ok(end)
 }
 
 // The checks in their order, then the walk.
 fn lower_sheet(sheet: &[u8], out: &mut [u8]) -> Result<usize, Refusal>
     ensures { AnsweredWith (lower_sheet sheet.now (length out.old)) (length out.old) out.new result }
 {
-    sheet::check_contract(sheet)?;
-    lower_contract(sheet, out)
+    let contract = Contract::new(sheet)?;
+    lower_contract(contract, out)
 }
 
 // Where the zeros start.

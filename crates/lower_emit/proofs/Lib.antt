@@ -1,4 +1,3 @@
-pub mod Appending
-pub mod Written
 pub mod Listed
-pub mod Codes
+pub mod Written
+pub mod Numbers

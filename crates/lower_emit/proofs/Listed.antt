@@ -1,25 +1,12 @@
 -- Records that end in a list of ids. Assumes nothing.
-use mathlib.Core.Path.{◌≡◌, refl, ◌∙◌}
+use mathlib.Core.Path.{◌≡◌, refl}
 use mathlib.Core.List.{List, [], ◌∷◌, ◌++◌, map, append-nil}
-use Prim.Native.Nat.{ℕ, zero, suc, ◌+◌, ◌*◌, ◌≤◌, ◌<◌}
+use Prim.Native.Nat.{ℕ, ◌+◌, ◌*◌}
 use native.Mathlib.Omega.{arith}
-use lib.ListN.{length, take, get_or, length-append, length-map}
-use lib.Seq.{length-take-le}
+use lib.ListN.{length, length-append}
 use Rattle.definitions.specs.Fields.{bytes}
 use Rattle.definitions.specs.Records.{small, FieldValue, rest, node, tnil, write_item, write_items, write_value, write_values, write_record, write_tree, write_trees}
-use Rattle.ir.specs.declared.ValueId.{ValueId}
-use Rattle.lower_emit.specs.Bytes.{id_bytes}
-use Rattle.lower_emit.specs.Emitted.{ids_of}
-
--- the first i ids and one more
-pub one_more : (ids : List ValueId) (i : ℕ) (d : ValueId) → i < length ids → id_bytes (ids_of ids i) ++ bytes 2 (get_or ids i d).0 ≡ id_bytes (ids_of ids (suc i))
-unfolding id_bytes bytes
-one_more [] i d h = absurd (omega arith)
-one_more (a ∷ more) zero d h = refl
-one_more (a ∷ more) (suc i) d h = rw (one_more more i d (omega arith))
-
-pub count_ids : (ids : List ValueId) (n : ℕ) → n ≤ length ids → length (ids_of ids n) ≡ n
-count_ids ids n h = length-map (take n ids) (λ (v : ValueId). v.0) ∙ length-take-le n ids h
+use Rattle.lower_state.specs.Bytes.{id_bytes}
 
 length_ids : (l : List ℕ) → length (id_bytes l) ≡ 2 * length l
 unfolding id_bytes bytes

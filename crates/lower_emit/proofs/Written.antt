@@ -1,9 +1,11 @@
 -- The bytes that the log got are a record's, and what that says of the state: `Pushes`, `Appends`, `Closes`. Assumes nothing.
 use mathlib.Core.Path.{◌≡◌, refl, ap, sym, ◌∙◌}
+use mathlib.Core.Bool.{Bool, true, false}
 use mathlib.Core.List.{List, [], ◌∷◌, ◌++◌, map}
 use mathlib.Core.Option.{Option, none, some}
-use Prim.Native.Nat.{ℕ, ◌+◌, ◌*◌, ◌/◌, ◌%◌, ◌<◌}
+use Prim.Native.Nat.{ℕ, suc, ◌+◌, ◌*◌, ◌/◌, ◌%◌, ◌<◌}
 use native.Mathlib.Omega.{arith}
+use lib.Dec.{leb}
 use lib.ListN.{length}
 use Rattle.definitions.specs.Fields.{bytes}
 use Rattle.definitions.specs.InstrTable.{binary_kind}
@@ -11,14 +13,12 @@ use Rattle.definitions.specs.Ir.{IrType, tag_of, name_of, unless_void, Instructi
 use Rattle.definitions.specs.Lower.{result_id}
 use Rattle.definitions.specs.Records.{small, opt, rest, write_tree, write_trees, write_record, write_values, write_value, write_item, write_type}
 use Rattle.definitions.specs.ProgramSheet.{instr_tree, term_tree}
-use Rattle.lower_walk.specs.Log.{log_instr, close, log_of, next_value}
-use Rattle.lower_counters.specs.Count.{counted_value}
-use Rattle.lower_counters.specs.declared.CountedValue.{CountedValue}
-use Rattle.lower_state.specs.declared.FnCtx.{FnCtx}
-use Rattle.lower_emit.specs.declared.Pushed.{Pushed}
-use Rattle.lower_emit.specs.Bytes.{record_bytes, call_bytes, terminator_bytes, id_bytes, part, Added}
-use Rattle.lower_emit.specs.Emitted.{moved_to, pushed_at, Pushes, Appends, Closes}
-use Rattle.lower_emit.proofs.Appending.{counted_append}
+use Rattle.ir.specs.declared.ValueId.{ValueId}
+use Rattle.lower_walk.specs.Log.{Log, room, append, counted, next_value, log_instr, close}
+use Rattle.lower_walk.specs.Stmts.{LogCtx, with_log, push_c}
+use Rattle.lower_state.specs.Bytes.{record_bytes, list_bytes, id_bytes, part}
+use Rattle.lower_emit.specs.Bytes.{terminator_bytes}
+use Rattle.lower_emit.specs.Emitted.{Pushes}
 use Rattle.lower_emit.proofs.Listed.{listed}
 
 abbrev code : IrType → ℕ
@@ -39,10 +39,10 @@ instr_bytes (Instruction.StateRead t s) v = record_bytes 73 v (part 4 (code t)) 
 instr_bytes (Instruction.StateWrite s w) v = record_bytes 74 65535 (part 4 s) (part 2 w) (part 0 0) 0
 instr_bytes (Instruction.ReadLocal l t) v = record_bytes 75 v (part 2 l) (part 4 (code t)) (part 0 0) 0
 instr_bytes (Instruction.WriteLocal l w) v = record_bytes 76 65535 (part 2 l) (part 2 w) (part 0 0) 0
-instr_bytes (Instruction.Call f l t) v = call_bytes (first (unless_void t) v) f (code t) l (length l)
+instr_bytes (Instruction.Call f l t) v = list_bytes 77 (first (unless_void t) v) (part 2 f) (part 4 (code t)) l
 instr_bytes (Instruction.Assert c) v = record_bytes 78 65535 (part 2 c) (part 0 0) (part 0 0) 0
 instr_bytes (Instruction.Poseidon l r) v = record_bytes 79 v (part 2 l) (part 2 r) (part 0 0) 0
-instr_bytes (Instruction.Emit e l) v = record_bytes 80 65535 (part 2 e) (part 0 0) (part 0 0) (2 * length l) ++ id_bytes l
+instr_bytes (Instruction.Emit e l) v = list_bytes 80 65535 (part 2 e) (part 0 0) l
 instr_bytes (Instruction.ContextRead k) v = record_bytes 81 v (part 2 k) (part 0 0) (part 0 0) 0
 
 abbrev pub term_bytes : Terminator → List ℕ
@@ -108,22 +108,36 @@ term_bytes_lem (Terminator.Return none) = refl
 term_bytes_lem (Terminator.Return (some v)) = refl
 term_bytes_lem Terminator.Unreachable = refl
 
-logged : (i : Instruction) {l m : List ℕ} (v : ℕ) {at r : ℕ} → Added l at (instr_bytes i v) m r → log_of m (next_value (result_type i) v) r ≡ log_instr i (log_of l v at)
+-- the count of values plays no part in an append
+pub counted_append : (v : ℕ) (x : List ℕ) (c : Log) → append x (counted v c) ≡ counted v (append x c)
+unfolding append
+counted_append v x c = go (leb (c.at + length x) room) refl
+  where
+    go : (t : Bool) → leb (c.at + length x) room ≡ t → append x (counted v c) ≡ counted v (append x c)
+    go true q = rw q
+    go false q = rw q
+
+-- the next value and the bytes are what `log_instr` gives
+logged : (i : Instruction) (c : Log) {o : Option IrType} → result_type i ≡ o → append (instr_bytes i c.value) (counted (next_value o c.value) c) ≡ log_instr i c
 unfolding log_instr
-logged i {l} v {at} a =
-    rw (← instr_bytes_lem i v) (a.is (next_value (result_type i) v) ∙ counted_append (next_value (result_type i) v) (instr_bytes i v) (log_of l v at))
+logged i c e =
+    let x = instr_bytes i c.value in
+    let v = next_value (result_type i) c.value in
+    ap (λ r. append x (counted (next_value r c.value) c)) (sym e) ∙ counted_append v x c ∙ ap (λ y. counted v (append y c)) (instr_bytes_lem i c.value)
 
-pub pushes : (i : Instruction) {t : IrType} {l m : List ℕ} {c : FnCtx} {v : CountedValue} {to : ℕ} {r : Pushed} → result_type i ≡ some t
-    → v ≡ counted_value c.counters → Added l c.to (instr_bytes i v.id.0) m to → r ≡ pushed_at c v to → Pushes i l c m r
-pushes i {t} {l} {m} {c} {v} {to} e q a p = rw (p, q) (record { is = rw e at (logged i c.counters.value (rw q at a)); id = refl; same = refl })
+-- the next value is taken, then the record is appended
+pub pushes : (i : Instruction) {t : IrType} {before middle after : LogCtx} {v : ValueId} → result_type i ≡ some t
+    → v.0 ≡ before.log.value → middle ≡ with_log (counted (suc before.log.value % 65536) before.log) before
+    → after ≡ with_log (append (instr_bytes i v.0) middle.log) middle → Pushes i before after v
+pushes i {before = b} e n q a = record { is = (rw (n, q) at a) ∙ ap (λ l. with_log l b) (logged i b.log e); id = n }
 
-pub appends : (i : Instruction) {l m : List ℕ} {c : FnCtx} {to : ℕ} {r : FnCtx} → result_type i ≡ none
-    → Added l c.to (instr_bytes i c.counters.value) m to → r ≡ moved_to c to → Appends i l c m r
-appends i {c = c} e a p = rw p (record { is = rw e at (logged i c.counters.value a); same = refl })
+-- the record is appended
+pub appends : (i : Instruction) (c : LogCtx) → result_type i ≡ none → with_log (append (instr_bytes i c.log.value) c.log) c ≡ push_c i c
+appends i c e = ap (λ l. with_log l c) (logged i c.log e)
 
-pub closes : (t : Terminator) {l m : List ℕ} {c : FnCtx} {to : ℕ} {r : FnCtx} → Added l c.to (term_bytes t) m to → r ≡ moved_to c to → Closes t l c m r
+pub closes : (t : Terminator) (c : LogCtx) → with_log (append (term_bytes t) c.log) c ≡ with_log (close t c.log) c
 unfolding close
-closes t {c = c} a p = rw p (record { is = rw (← term_bytes_lem t) (a.is c.counters.value); same = refl })
+closes t c = ap (λ b. with_log (append b c.log) c) (term_bytes_lem t)
 
 -- a type of a call that gives a value
 pub not_void : (t : IrType) → tag_of t < 4 → unless_void t ≡ some t

@@ -1,31 +1,6 @@
--- The bytes of a record that the log gets, and that it got them. Untrusted: helper definitions, shown equal to `write_tree` of the
--- record's tree.
-use Rattle.std.specs.Prelude.{ℕ, ◌+◌, ◌*◌, ◌≡◌, List, [], ◌∷◌, ◌++◌}
-use Rattle.definitions.specs.Fields.{bytes}
-use Rattle.lower_walk.specs.Log.{append, log_of}
-use Rattle.lower_emit.specs.declared.Part.{Part}
+-- The bytes of terminators of one id. Untrusted: helper definitions.
+use Rattle.std.specs.Prelude.{ℕ, List}
+use Rattle.lower_state.specs.Bytes.{record_bytes, part}
 
--- length, kind, the two bytes that the fields start with, and three parts; `more` bytes belong to the record and come later
-unfoldable pub record_bytes : (kind first : ℕ) (a b c : Part) (more : ℕ) → List ℕ
-record_bytes kind first a b c more =
-    bytes 4 (8 + a.0 + b.0 + c.0 + more) ++ bytes 2 kind ++ bytes 0 0 ++ bytes 2 first ++ bytes a.0 a.1 ++ bytes b.0 b.1 ++ bytes c.0 c.1
-
-abbrev pub part : ℕ → ℕ → Part
-part n v = record { 0 = n; 1 = v }
-
--- ids in two bytes each
-unfoldable pub id_bytes : List ℕ → List ℕ
-id_bytes [] = []
-id_bytes (i ∷ is) = bytes 2 i ++ id_bytes is
-
--- a Call of a function whose type has this code, with n arguments
-abbrev pub call_bytes : (first function code : ℕ) (args : List ℕ) (n : ℕ) → List ℕ
-call_bytes first function code args n = record_bytes 77 first (part 2 function) (part 4 code) (part 0 0) (2 * n) ++ id_bytes args
-
--- a terminator of one id
 abbrev pub terminator_bytes : (kind id : ℕ) → List ℕ
 terminator_bytes kind id = record_bytes kind id (part 0 0) (part 0 0) (part 0 0) 0
-
--- from l, with the log's end at `at`, to m, with its end at r, the bytes x were appended
-pub record Added (l : List ℕ) (at : ℕ) (x m : List ℕ) (r : ℕ) : Type 0 where
-  pub is : (value : ℕ) → log_of m value r ≡ append x (log_of l value at)

@@ -1,2 +1,3 @@
+pub mod Args
 pub mod Bytes
 pub mod Emitted

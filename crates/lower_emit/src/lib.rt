@@ -1,447 +1,219 @@
 // Instructions and terminators appended to the log, each by one call. An instruction that gives a value takes the next one from the counters.
 #![tactic(auto)]
 
-ghost use Rattle.std.specs.Prelude.{List, ◌++◌, ◌≡◌, ℕ, ◌≤◌, ◌<◌};
+ghost use Rattle.std.specs.Prelude.{◌≡◌, ◌<◌, ◌+◌, ◌*◌};
 ghost use Rattle.std.proofs.Math.Option.{none, some};
-ghost use Rattle.definitions.specs.Fields.{bytes};
+ghost use Rattle.definitions.specs.ContractSheet.{op_of};
+ghost use Rattle.definitions.specs.InstrTable.{binary_kind};
 ghost use Rattle.definitions.specs.Ir as defs;
 ghost use Rattle.definitions.specs.Ir.{Instruction, Terminator, tag_of};
-ghost use Rattle.definitions.specs.ContractSheet.{op_of};
-ghost use Rattle.definitions.specs.InstrTable.{kind_of};
+ghost use Rattle.format.specs.Contexts.{context_number};
+ghost use Rattle.format.specs.Kinds.{instr_number, term_number};
+ghost use Rattle.format.specs.Operators.{op_number};
 ghost use Rattle.ir.specs.Types.{as_type};
-ghost use Rattle.lower_emit.specs.Bytes.{record_bytes, call_bytes, terminator_bytes, id_bytes, Added};
-ghost use Rattle.lower_emit.specs.Emitted.{ids_of, pushed_at, moved_to, Pushes, Appends, Closes};
+ghost use Rattle.lower_walk.specs.Log.{append};
+ghost use Rattle.lower_walk.specs.Stmts.{with_log};
+ghost use Rattle.lower_emit.specs.Bytes.{terminator_bytes};
+ghost use Rattle.lower_emit.specs.Emitted.{Pushes, Appends, Closes};
 
-use format::{ABSENT, MOST, kinds, operators, program};
+use format::operators::BinOp;
+use format::program::ContextKind;
+use format::{ABSENT, kinds};
 use ir::{BlockId, FunctionId, IrType, LocalId, Name, U64_CODE, VOID_CODE, ValueId};
-use lower_counters::{CountedValue, next_value};
-use lower_state::{FnCtx, LOST, Log};
+use lower_state::{FnCtx, Part};
 
-// After an instruction that gives a value: the state, and the value.
-#[derive(Clone, Copy)]
-pub struct Pushed {
-    pub ctx: FnCtx,
-    pub id: ValueId,
-}
+pub mod args; // the values of a call's or an event's arguments
 
-// The state with the value that was taken and the log's new place.
-fn after_value(ctx: FnCtx, taken: CountedValue, to: usize) -> Pushed
-    ensures { result ≡ pushed_at ctx taken to }
+pub use args::Args;
+
+const NOTHING: Part = Part::NOTHING;
+
+// A type as a part of a record.
+fn type_part(ty: IrType) -> Part
+    ensures { (result.0 ≡ 4) × (result.1 ≡ tag_of (as_type ty) + 65536 * defs.name_of (as_type ty)) }
 {
-    let function = ctx.function;
-    let counters = taken.counters;
-    let current = ctx.current;
-    let next = FnCtx {
-        function,
-        counters,
-        current,
-        ended: ctx.ended,
-        to,
-    };
-    let id = taken.id;
-    Pushed { ctx: next, id }
-}
-
-// The state with the log's new place.
-fn after_record(ctx: FnCtx, to: usize) -> FnCtx
-    ensures { result ≡ moved_to ctx to }
-{
-    let mut next = ctx;
-    next.to = to;
-    next
-}
-
-// The n bytes of v, behind what is there.
-fn put(log: &mut Log, at: usize, n: usize, v: usize) -> usize
-    requires { n ≤ 8 }
-    ensures { Added log.old at (bytes n v) log.new result }
-{
-    if MOST - n < at {
-        return LOST;
-    }
-    writer::write(log, at, n, v);
-    at + n
-}
-
-// A part of a record: so many bytes of a number.
-#[derive(Clone, Copy)]
-pub struct Part(pub usize, pub usize);
-
-const NOTHING: Part = Part(0, 0);
-
-// A record: its length, its kind, the two bytes that its fields start with, up to three more parts, and so many bytes that are still to
-// come.
-fn put_record(
-    log: &mut Log,
-    at: usize,
-    kind: usize,
-    first: u16,
-    a: Part,
-    b: Part,
-    c: Part,
-    more: usize,
-) -> usize
-    requires { (a.0 ≤ 8) × ((b.0 ≤ 8) × ((c.0 ≤ 8) × (more ≤ 32))) }
-    ensures { Added log.old at (record_bytes kind first a b c more) log.new result }
-{
-    let at = put(log, at, 4, program::OWN + a.0 + b.0 + c.0 + more);
-    let at = put(log, at, 2, kind);
-    let at = put(log, at, program::ORIGIN, 0);
-    let at = put(log, at, 2, first as usize);
-    let at = put(log, at, a.0, a.1);
-    let at = put(log, at, b.0, b.1);
-    put(log, at, c.0, c.1)
-}
-
-// The first n ids of a list, behind bytes that were just appended.
-fn put_ids(log: &mut Log, at: usize, ids: [ValueId; 16], n: usize) -> usize
-    requires { n ≤ 16 }
-    ensures { (l x : List ℕ) (from : ℕ) → Added l from x log.old at → Added l from (x ++ id_bytes (ids_of ids n)) log.new result }
-{
-    let mut to = at;
-    let mut i = 0;
-    while i < n {
-        let id = ids[i];
-        to = put(log, to, 2, id.0 as usize);
-        i += 1;
-    }
-    to
+    Part(4, u32::from(ty) as usize)
 }
 
 // Const, of type U64.
-pub fn emit_const(log: &mut Log, ctx: FnCtx, value: usize) -> Pushed
-    ensures { Pushes (Instruction.Const defs.IrType.U64 value) log.old ctx log.new result }
+pub fn emit_const(ctx: &mut FnCtx, value: usize) -> ValueId
+    ensures { Pushes (Instruction.Const defs.IrType.U64 value) ctx.old ctx.new result }
 {
-    let taken = next_value(ctx.counters);
-    let first = taken.id;
-    let to = put_record(
-        log,
-        ctx.to,
-        kinds::CONST,
-        first.0,
-        Part(4, U64_CODE),
-        Part(8, value),
-        NOTHING,
-        0,
-    );
-    after_value(ctx, taken, to)
+    let id = ctx.next_value();
+    let kind = kinds::Instruction::Const as u16;
+    ctx.append(kind, id.0, Part(4, U64_CODE), Part(8, value), NOTHING);
+    id
 }
 
-// The kind of an operator's instruction: the sheet's operators are in the order of `BinOp`, the kinds in that of `Instruction`.
-fn binary_kind(op: usize) -> usize
-    requires { op ≤ 9 }
-    ensures { (ty : defs.IrType) (l m : ℕ) → result ≡ kind_of (Instruction.Binary (op_of op) ty l m) }
+// The kind of an operator's instruction.
+fn binary_kind(op: BinOp) -> kinds::Instruction
+    ensures { instr_number result ≡ binary_kind (op_of (op_number op)) }
 {
     match op {
-        operators::GT => kinds::GT,
-        operators::LTE => kinds::LE,
-        _ => kinds::ADD + op,
+        BinOp::Add => kinds::Instruction::Add,
+        BinOp::Sub => kinds::Instruction::Sub,
+        BinOp::Mul => kinds::Instruction::Mul,
+        BinOp::Div => kinds::Instruction::Div,
+        BinOp::Eq => kinds::Instruction::Eq,
+        BinOp::Neq => kinds::Instruction::Ne,
+        BinOp::Lt => kinds::Instruction::Lt,
+        BinOp::Gt => kinds::Instruction::Gt,
+        BinOp::Lte => kinds::Instruction::Le,
+        BinOp::Gte => kinds::Instruction::Ge,
     }
 }
 
 // The ten operators.
-pub fn emit_binary(
-    log: &mut Log,
-    ctx: FnCtx,
-    op: usize,
-    ty: IrType,
-    lhs: ValueId,
-    rhs: ValueId,
-) -> Pushed
-    requires { op ≤ 9 }
-    ensures { Pushes (Instruction.Binary (op_of op) (as_type ty) lhs.0 rhs.0) log.old ctx log.new result }
+pub fn emit_binary(ctx: &mut FnCtx, op: BinOp, ty: IrType, lhs: ValueId, rhs: ValueId) -> ValueId
+    ensures { Pushes (Instruction.Binary (op_of (op_number op)) (as_type ty) lhs.0 rhs.0) ctx.old ctx.new result }
 {
     let left = lhs.0 as usize;
     let right = rhs.0 as usize;
-    let taken = next_value(ctx.counters);
-    let first = taken.id;
-    let to = put_record(
-        log,
-        ctx.to,
-        binary_kind(op),
-        first.0,
-        Part(4, u32::from(ty) as usize),
-        Part(2, left),
-        Part(2, right),
-        0,
-    );
-    after_value(ctx, taken, to)
+    let id = ctx.next_value();
+    let kind = binary_kind(op) as u16;
+    ctx.append(kind, id.0, type_part(ty), Part(2, left), Part(2, right));
+    id
 }
 
 // Load, of type U64.
-pub fn emit_load(log: &mut Log, ctx: FnCtx, base: ValueId, offset: usize) -> Pushed
-    ensures { Pushes (Instruction.Load defs.IrType.U64 base.0 offset) log.old ctx log.new result }
+pub fn emit_load(ctx: &mut FnCtx, base: ValueId, offset: usize) -> ValueId
+    ensures { Pushes (Instruction.Load defs.IrType.U64 base.0 offset) ctx.old ctx.new result }
 {
-    let taken = next_value(ctx.counters);
-    let first = taken.id;
-    let to = put_record(
-        log,
-        ctx.to,
-        kinds::LOAD,
-        first.0,
-        Part(4, U64_CODE),
-        Part(2, base.0 as usize),
-        Part(8, offset),
-        0,
-    );
-    after_value(ctx, taken, to)
+    let id = ctx.next_value();
+    let kind = kinds::Instruction::Load as u16;
+    let base = Part(2, base.0 as usize);
+    ctx.append(kind, id.0, Part(4, U64_CODE), base, Part(8, offset));
+    id
 }
 
 // StateRead, of type U64.
-pub fn emit_state_read(log: &mut Log, ctx: FnCtx, slot: usize) -> Pushed
-    ensures { Pushes (Instruction.StateRead defs.IrType.U64 slot) log.old ctx log.new result }
+pub fn emit_state_read(ctx: &mut FnCtx, slot: usize) -> ValueId
+    ensures { Pushes (Instruction.StateRead defs.IrType.U64 slot) ctx.old ctx.new result }
 {
-    let taken = next_value(ctx.counters);
-    let first = taken.id;
-    let to = put_record(
-        log,
-        ctx.to,
-        kinds::STATE_READ,
-        first.0,
-        Part(4, U64_CODE),
-        Part(4, slot),
-        NOTHING,
-        0,
-    );
-    after_value(ctx, taken, to)
+    let id = ctx.next_value();
+    let kind = kinds::Instruction::StateRead as u16;
+    ctx.append(kind, id.0, Part(4, U64_CODE), Part(4, slot), NOTHING);
+    id
 }
 
-pub fn emit_state_write(log: &mut Log, ctx: FnCtx, slot: usize, value: ValueId) -> FnCtx
-    ensures { Appends (Instruction.StateWrite slot value.0) log.old ctx log.new result }
+pub fn emit_state_write(ctx: &mut FnCtx, slot: usize, value: ValueId)
+    ensures { Appends (Instruction.StateWrite slot value.0) ctx.old ctx.new }
 {
-    let to = put_record(
-        log,
-        ctx.to,
-        kinds::STATE_WRITE,
-        ABSENT,
-        Part(4, slot),
-        Part(2, value.0 as usize),
-        NOTHING,
-        0,
-    );
-    after_record(ctx, to)
+    let kind = kinds::Instruction::StateWrite as u16;
+    let value = Part(2, value.0 as usize);
+    ctx.append(kind, ABSENT, Part(4, slot), value, NOTHING);
 }
 
-pub fn emit_read_local(log: &mut Log, ctx: FnCtx, local: LocalId, ty: IrType) -> Pushed
-    ensures { Pushes (Instruction.ReadLocal local.0 (as_type ty)) log.old ctx log.new result }
+pub fn emit_read_local(ctx: &mut FnCtx, local: LocalId, ty: IrType) -> ValueId
+    ensures { Pushes (Instruction.ReadLocal local.0 (as_type ty)) ctx.old ctx.new result }
 {
-    let taken = next_value(ctx.counters);
-    let first = taken.id;
-    let to = put_record(
-        log,
-        ctx.to,
-        kinds::READ_LOCAL,
-        first.0,
-        Part(2, local.0 as usize),
-        Part(4, u32::from(ty) as usize),
-        NOTHING,
-        0,
-    );
-    after_value(ctx, taken, to)
+    let id = ctx.next_value();
+    let kind = kinds::Instruction::ReadLocal as u16;
+    let local = Part(2, local.0 as usize);
+    ctx.append(kind, id.0, local, type_part(ty), NOTHING);
+    id
 }
 
-pub fn emit_write_local(log: &mut Log, ctx: FnCtx, local: LocalId, value: ValueId) -> FnCtx
-    ensures { Appends (Instruction.WriteLocal local.0 value.0) log.old ctx log.new result }
+pub fn emit_write_local(ctx: &mut FnCtx, local: LocalId, value: ValueId)
+    ensures { Appends (Instruction.WriteLocal local.0 value.0) ctx.old ctx.new }
 {
-    let to = put_record(
-        log,
-        ctx.to,
-        kinds::WRITE_LOCAL,
-        ABSENT,
-        Part(2, local.0 as usize),
-        Part(2, value.0 as usize),
-        NOTHING,
-        0,
-    );
-    after_record(ctx, to)
-}
-
-// The bytes of a Call whose result is `first`.
-fn put_call(
-    log: &mut Log,
-    at: usize,
-    first: u16,
-    function: FunctionId,
-    code: usize,
-    args: [ValueId; 16],
-    n: usize,
-) -> usize
-    requires { n ≤ 16 }
-    ensures { Added log.old at (call_bytes first function.0 code (ids_of args n) n) log.new result }
-{
-    let at = put_record(
-        log,
-        at,
-        kinds::CALL,
-        first,
-        Part(2, function.0 as usize),
-        Part(4, code),
-        NOTHING,
-        2 * n,
-    );
-    put_ids(log, at, args, n)
+    let kind = kinds::Instruction::WriteLocal as u16;
+    let local = Part(2, local.0 as usize);
+    let value = Part(2, value.0 as usize);
+    ctx.append(kind, ABSENT, local, value, NOTHING);
 }
 
 // Call of a function that gives a value.
-pub fn emit_call(
-    log: &mut Log,
-    ctx: FnCtx,
-    function: FunctionId,
-    ty: IrType,
-    args: [ValueId; 16],
-    n: usize,
-) -> Pushed
-    requires { (n ≤ 16) × (tag_of (as_type ty) < 4) }
-    ensures { Pushes (Instruction.Call function.0 (ids_of args n) (as_type ty)) log.old ctx log.new result }
+pub fn emit_call(ctx: &mut FnCtx, function: FunctionId, ty: IrType, args: &Args) -> ValueId
+    requires { tag_of (as_type ty) < 4 }
+    ensures { Pushes (Instruction.Call function.0 args.now (as_type ty)) ctx.old ctx.new result }
 {
-    let taken = next_value(ctx.counters);
-    let first = taken.id;
-    let to = put_call(
-        log,
-        ctx.to,
-        first.0,
-        function,
-        u32::from(ty) as usize,
-        args,
-        n,
-    );
-    after_value(ctx, taken, to)
+    let id = ctx.next_value();
+    let kind = kinds::Instruction::Call as u16;
+    let function = Part(2, function.0 as usize);
+    ctx.append_list(kind, id.0, function, type_part(ty), args.as_slice());
+    id
 }
 
 // Call of a function that gives none.
-pub fn emit_call_void(
-    log: &mut Log,
-    ctx: FnCtx,
-    function: FunctionId,
-    args: [ValueId; 16],
-    n: usize,
-) -> FnCtx
-    requires { n ≤ 16 }
-    ensures { Appends (Instruction.Call function.0 (ids_of args n) defs.IrType.Void) log.old ctx log.new result }
+pub fn emit_call_void(ctx: &mut FnCtx, function: FunctionId, args: &Args)
+    ensures { Appends (Instruction.Call function.0 args.now defs.IrType.Void) ctx.old ctx.new }
 {
-    let to = put_call(log, ctx.to, ABSENT, function, VOID_CODE, args, n);
-    after_record(ctx, to)
+    let kind = kinds::Instruction::Call as u16;
+    let function = Part(2, function.0 as usize);
+    ctx.append_list(kind, ABSENT, function, Part(4, VOID_CODE), args.as_slice());
 }
 
-pub fn emit_assert(log: &mut Log, ctx: FnCtx, condition: ValueId) -> FnCtx
-    ensures { Appends (Instruction.Assert condition.0) log.old ctx log.new result }
+pub fn emit_assert(ctx: &mut FnCtx, condition: ValueId)
+    ensures { Appends (Instruction.Assert condition.0) ctx.old ctx.new }
 {
-    let to = put_record(
-        log,
-        ctx.to,
-        kinds::ASSERT,
-        ABSENT,
-        Part(2, condition.0 as usize),
-        NOTHING,
-        NOTHING,
-        0,
-    );
-    after_record(ctx, to)
+    let kind = kinds::Instruction::Assert as u16;
+    let condition = Part(2, condition.0 as usize);
+    ctx.append(kind, ABSENT, condition, NOTHING, NOTHING);
 }
 
-pub fn emit_poseidon(log: &mut Log, ctx: FnCtx, lhs: ValueId, rhs: ValueId) -> Pushed
-    ensures { Pushes (Instruction.Poseidon lhs.0 rhs.0) log.old ctx log.new result }
+pub fn emit_poseidon(ctx: &mut FnCtx, lhs: ValueId, rhs: ValueId) -> ValueId
+    ensures { Pushes (Instruction.Poseidon lhs.0 rhs.0) ctx.old ctx.new result }
 {
-    let taken = next_value(ctx.counters);
-    let first = taken.id;
-    let to = put_record(
-        log,
-        ctx.to,
-        kinds::POSEIDON,
-        first.0,
-        Part(2, lhs.0 as usize),
-        Part(2, rhs.0 as usize),
-        NOTHING,
-        0,
-    );
-    after_value(ctx, taken, to)
+    let id = ctx.next_value();
+    let kind = kinds::Instruction::Poseidon as u16;
+    let lhs = Part(2, lhs.0 as usize);
+    let rhs = Part(2, rhs.0 as usize);
+    ctx.append(kind, id.0, lhs, rhs, NOTHING);
+    id
 }
 
 // Emit.
-pub fn emit_event(log: &mut Log, ctx: FnCtx, event: Name, args: [ValueId; 16], n: usize) -> FnCtx
-    requires { n ≤ 16 }
-    ensures { Appends (Instruction.Emit event.0 (ids_of args n)) log.old ctx log.new result }
+pub fn emit_event(ctx: &mut FnCtx, event: Name, args: &Args)
+    ensures { Appends (Instruction.Emit event.0 args.now) ctx.old ctx.new }
 {
-    let at = put_record(
-        log,
-        ctx.to,
-        kinds::EMIT,
-        ABSENT,
-        Part(2, event.0 as usize),
-        NOTHING,
-        NOTHING,
-        2 * n,
-    );
-    let to = put_ids(log, at, args, n);
-    after_record(ctx, to)
+    let kind = kinds::Instruction::Emit as u16;
+    let event = Part(2, event.0 as usize);
+    ctx.append_list(kind, ABSENT, event, NOTHING, args.as_slice());
 }
 
-pub fn emit_context_read(log: &mut Log, ctx: FnCtx, kind: usize) -> Pushed
-    ensures { Pushes (Instruction.ContextRead kind) log.old ctx log.new result }
+pub fn emit_context_read(ctx: &mut FnCtx, context: ContextKind) -> ValueId
+    ensures { Pushes (Instruction.ContextRead (context_number context)) ctx.old ctx.new result }
 {
-    let taken = next_value(ctx.counters);
-    let first = taken.id;
-    let to = put_record(
-        log,
-        ctx.to,
-        kinds::CONTEXT_READ,
-        first.0,
-        Part(2, kind),
-        NOTHING,
-        NOTHING,
-        0,
-    );
-    after_value(ctx, taken, to)
+    let id = ctx.next_value();
+    let kind = kinds::Instruction::ContextRead as u16;
+    let context = Part(2, context as usize);
+    ctx.append(kind, id.0, context, NOTHING, NOTHING);
+    id
 }
 
 // A terminator of one id.
-fn put_terminator(log: &mut Log, at: usize, kind: usize, id: u16) -> usize
-    ensures { Added log.old at (terminator_bytes kind id) log.new result }
+fn put_terminator(ctx: &mut FnCtx, kind: kinds::Terminator, id: u16)
+    ensures { ctx.new ≡ with_log (append (terminator_bytes (term_number kind) id) ctx.old.log) ctx.old }
 {
-    put_record(log, at, kind, id, NOTHING, NOTHING, NOTHING, 0)
+    ctx.append(kind as u16, id, NOTHING, NOTHING, NOTHING);
 }
 
-pub fn emit_jump(log: &mut Log, ctx: FnCtx, target: BlockId) -> FnCtx
-    ensures { Closes (Terminator.Jump target.0) log.old ctx log.new result }
+pub fn emit_jump(ctx: &mut FnCtx, target: BlockId)
+    ensures { Closes (Terminator.Jump target.0) ctx.old ctx.new }
 {
-    let to = put_terminator(log, ctx.to, kinds::JUMP, target.0);
-    after_record(ctx, to)
+    put_terminator(ctx, kinds::Terminator::Jump, target.0);
 }
 
-pub fn emit_branch(
-    log: &mut Log,
-    ctx: FnCtx,
-    condition: ValueId,
-    then_block: BlockId,
-    else_block: BlockId,
-) -> FnCtx
-    ensures { Closes (Terminator.Branch condition.0 then_block.0 else_block.0) log.old ctx log.new result }
+pub fn emit_branch(ctx: &mut FnCtx, condition: ValueId, then_block: BlockId, else_block: BlockId)
+    ensures { Closes (Terminator.Branch condition.0 then_block.0 else_block.0) ctx.old ctx.new }
 {
-    let to = put_record(
-        log,
-        ctx.to,
-        kinds::BRANCH,
-        condition.0,
-        Part(2, then_block.0 as usize),
-        Part(2, else_block.0 as usize),
-        NOTHING,
-        0,
-    );
-    after_record(ctx, to)
+    let kind = kinds::Terminator::Branch as u16;
+    let yes = Part(2, then_block.0 as usize);
+    let no = Part(2, else_block.0 as usize);
+    ctx.append(kind, condition.0, yes, no, NOTHING);
 }
 
 // Return of a value.
-pub fn emit_return(log: &mut Log, ctx: FnCtx, value: ValueId) -> FnCtx
-    ensures { Closes (Terminator.Return (some value.0)) log.old ctx log.new result }
+pub fn emit_return(ctx: &mut FnCtx, value: ValueId)
+    ensures { Closes (Terminator.Return (some value.0)) ctx.old ctx.new }
 {
-    let to = put_terminator(log, ctx.to, kinds::RETURN, value.0);
-    after_record(ctx, to)
+    put_terminator(ctx, kinds::Terminator::Return, value.0);
 }
 
 // Return without a value.
-pub fn emit_return_none(log: &mut Log, ctx: FnCtx) -> FnCtx
-    ensures { Closes (Terminator.Return none) log.old ctx log.new result }
+pub fn emit_return_none(ctx: &mut FnCtx)
+    ensures { Closes (Terminator.Return none) ctx.old ctx.new }
 {
-    let to = put_terminator(log, ctx.to, kinds::RETURN, ABSENT);
-    after_record(ctx, to)
+    put_terminator(ctx, kinds::Terminator::Return, ABSENT);
 }

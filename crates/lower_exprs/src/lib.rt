@@ -2,144 +2,80 @@
 #![tactic(auto)]
 
 ghost use Rattle.std.specs.Prelude.{◌≡◌, ◌≤◌};
-ghost use Rattle.definitions.specs.Grammar.{Class};
-ghost use Rattle.sheet.specs.Passed.{record_kind};
-ghost use Rattle.contract_nodes.specs.Ready.{Ready};
-ghost use Rattle.sheet.specs.Passed.{ContractPassed};
-ghost use Rattle.lower_values.specs.Values.{lowered_in, valued_in, LoweredSame, ValuedSame};
-ghost use Rattle.lower_exprs.specs.Exprs.{expr_on, expr_value_on};
+ghost use Rattle.ir.specs.Answers.{option_of};
+ghost use Rattle.contract_nodes.specs.Nodes.{contract_in, expr_in, exprs_in, count_of};
+ghost use Rattle.lower_walk.specs.Exprs.{walk_expr, walk_expr_value};
+ghost use Rattle.lower_state.specs.Answers.{after};
+ghost use Rattle.lower_values.specs.Values.{value_of, LogAlone};
+ghost use Rattle.lower_exprs.specs.Calls.{call_of};
 
-use contract_lookup::by_place::name_at;
-use format::{KIND, contract, kinds};
-use ir::ValueId;
-use lower_counters::Counters;
-use lower_names::{Entries, Top};
-use lower_state::{FnCtx, Log, LoweringError};
-use lower_values::{Lowered, Valued, calls, leaves};
-use reader::read;
+use contract_nodes::{Expr, ExprNode, Exprs};
+use ir::Name;
+use lower_emit::Args;
+use lower_names::Scopes;
+use lower_state::{FnCtx, LoweringError};
+use lower_values::calls::{Callee, callee_named, finish_call};
+use lower_values::{Value, leaves};
 
-// The expression at a place, with the names that are held.
+// An expression, with the names that are held. What it gives is nothing, if it is a call of a function that gives nothing.
 #[cycle(exprs)]
-pub fn lower_expr(
-    s: &[u8],
-    at: usize,
-    depth: usize,
-    entries: &Entries,
-    top: Top,
-    ctx: FnCtx,
-    log: &mut Log,
-) -> Lowered
-    requires { Ready Class.expression s.now at depth × (ContractPassed s.now × (top.count ≤ 256)) }
-    ensures result_after { lowered_in log.new result ≡ expr_on s.now at entries.now top log.old ctx }
-    ensures lowered_same { LoweredSame ctx result }
+#[tactic(auto, unfolding(lower_walk::specs::Exprs::walk_expr))]
+pub fn lower_expr(ctx: &mut FnCtx, scopes: &Scopes, e: Expr) -> Result<Option<Value>, LoweringError>
+    ensures is { after (option_of value_of) ctx.new.log result ≡ walk_expr (contract_in e.entry.contract) scopes.now.held (expr_in e.entry) ctx.old.log }
+    ensures log_alone { LogAlone ctx.old ctx.new }
 {
-    let kind = read(s, at + KIND, 2);
-    match kind {
-        kinds::INT => leaves::lower_int(read(s, at + contract::NUMBER, 8), ctx, log),
-        kinds::IDENT => leaves::lower_ident(name_at(s, at), entries, top, ctx, log),
-        kinds::STORAGE_READ => leaves::lower_storage_read(s, name_at(s, at), ctx, log),
-        kinds::MAPPING_READ => Lowered::Refused(LoweringError::MappingRead),
-        kinds::FIELD_ACCESS => {
-            let base = at + contract::AFTER_NAME;
-            let base = lower_expr_value(s, base, depth - 1, entries, top, ctx, log);
-            leaves::lower_field(s, name_at(s, at), base, log)
+    match e.node() {
+        ExprNode::Int(number) => Ok(Some(leaves::lower_int(ctx, number))),
+        ExprNode::Ident(name) => Ok(Some(leaves::lower_ident(ctx, scopes, name)?)),
+        ExprNode::StorageRead(name) => {
+            Ok(Some(leaves::lower_storage_read(ctx, e.contract, name)?))
         }
-        kinds::STRUCT_LITERAL => Lowered::Refused(LoweringError::StructLiteral),
-        kinds::BINARY => {
-            let left = at + contract::AFTER_NAME;
-            let lhs = lower_expr_value(s, left, depth - 1, entries, top, ctx, log);
-            match lhs {
-                Valued::Value(next, l, ty) => {
-                    let right = left + read(s, left, 4);
-                    let rhs = lower_expr_value(s, right, depth - 1, entries, top, next, log);
-                    leaves::lower_binary(read(s, at + contract::OPERATOR, 2), ty, l, rhs, log)
-                }
-                Valued::Refused(e) => Lowered::Refused(e),
-            }
+        ExprNode::MappingRead(_, _) => Err(LoweringError::MappingRead),
+        ExprNode::FieldAccess(field, of) => {
+            let (base, ty) = lower_expr_value(ctx, scopes, of)?;
+            Ok(Some(leaves::lower_field(ctx, e.contract, field, base, ty)?))
         }
-        _ => lower_call(s, at, depth, entries, top, ctx, log),
-    }
-}
-
-// The same state. It is copied field by field: a copy of the whole waits until the fields, which were just stored one by one, are in the cache.
-pub fn copied(ctx: FnCtx) -> FnCtx
-    ensures { result ≡ ctx }
-{
-    let counters = ctx.counters;
-    let function = ctx.function;
-    let current = ctx.current;
-    FnCtx {
-        function,
-        counters: Counters {
-            value: counters.value,
-            block: counters.block,
-            local: counters.local,
-        },
-        current,
-        ended: ctx.ended,
-        to: ctx.to,
+        ExprNode::StructLiteral(_, _) => Err(LoweringError::StructLiteral),
+        ExprNode::Binary(op, left, right) => {
+            let (lhs, ty) = lower_expr_value(ctx, scopes, left)?;
+            let (rhs, _) = lower_expr_value(ctx, scopes, right)?;
+            Ok(Some(leaves::lower_binary(ctx, op, ty, lhs, rhs)))
+        }
+        ExprNode::Call(name, args) => lower_call(ctx, scopes, name, args),
     }
 }
 
 // An expression that must give a value.
 #[cycle(exprs)]
-pub fn lower_expr_value(
-    s: &[u8],
-    at: usize,
-    depth: usize,
-    entries: &Entries,
-    top: Top,
-    ctx: FnCtx,
-    log: &mut Log,
-) -> Valued
-    requires { Ready Class.expression s.now at depth × (ContractPassed s.now × (top.count ≤ 256)) }
-    ensures result_after { valued_in log.new result ≡ expr_value_on s.now at entries.now top log.old ctx }
-    ensures valued_same { ValuedSame ctx result }
+#[tactic(auto, unfolding(lower_walk::specs::Exprs::walk_expr_value))]
+pub fn lower_expr_value(ctx: &mut FnCtx, scopes: &Scopes, e: Expr) -> Result<Value, LoweringError>
+    ensures is { after value_of ctx.new.log result ≡ walk_expr_value (contract_in e.entry.contract) scopes.now.held (expr_in e.entry) ctx.old.log }
+    ensures log_alone { LogAlone ctx.old ctx.new }
 {
-    let lowered = lower_expr(s, at, depth, entries, top, ctx, log);
-    match lowered {
-        Lowered::Value(next, v, ty) => Valued::Value(copied(next), v, ty),
-        Lowered::Void(_) => Valued::Refused(LoweringError::VoidAsValue),
-        Lowered::Refused(e) => Valued::Refused(e),
-    }
+    lower_expr(ctx, scopes, e)?.ok_or(LoweringError::VoidAsValue)
 }
 
-// A call: what is called, then its arguments, then the call itself.
+// A call: what is called, then its arguments, then the call itself. A read of the context ignores its arguments.
 #[cycle(exprs)]
 fn lower_call(
-    s: &[u8],
-    at: usize,
-    depth: usize,
-    entries: &Entries,
-    top: Top,
-    ctx: FnCtx,
-    log: &mut Log,
-) -> Lowered
-    requires ready { Ready Class.expression s.now at depth × (ContractPassed s.now × (top.count ≤ 256)) }
-    requires at_value { record_kind s.now at ≡ 37 }
-    ensures result_after { lowered_in log.new result ≡ expr_on s.now at entries.now top log.old ctx }
-    ensures lowered_same { LoweredSame ctx result }
+    ctx: &mut FnCtx,
+    scopes: &Scopes,
+    name: Name,
+    args: Exprs,
+) -> Result<Option<Value>, LoweringError>
+    requires { count_of (exprs_in args) ≤ 16 }
+    ensures is { after (option_of value_of) ctx.new.log result ≡ call_of (contract_in args.entry.contract) scopes.now.held name.0 (exprs_in args.entry) ctx.old.log }
+    ensures log_alone { LogAlone ctx.old ctx.new }
 {
-    let first = at + contract::AFTER_NAME;
-    let stop = at + read(s, at, 4);
-    let callee = calls::callee(s, name_at(s, at), sheet::places::count(s, first, stop));
-    let mut arg = calls::first_argument(callee, first, stop);
-    let mut ids = [ValueId(0); 16];
-    let mut n = 0;
-    let mut ctx = ctx;
-    while arg < stop {
-        let lowered = lower_expr_value(s, arg, depth - 1, entries, top, ctx, log);
-        match lowered {
-            Valued::Value(next, v, _) => {
-                ids[n] = v;
-                n += 1;
-                arg += read(s, arg, 4);
-                ctx = next;
-            }
-            Valued::Refused(e) => {
-                return Lowered::Refused(e);
-            }
-        }
+    let callee = callee_named(args.contract, name, args.len())?;
+    let mut values = Args::new();
+    if let Callee::Context(_) = callee {
+        return finish_call(ctx, callee, &values);
     }
-    calls::finish_call(callee, ids, n, ctx, log)
+    let mut args = args;
+    while let Some(arg) = args.next() {
+        let (value, _) = lower_expr_value(ctx, scopes, arg)?;
+        values.push(value);
+    }
+    finish_call(ctx, callee, &values)
 }

@@ -1,59 +1,79 @@
-// Blocks and locals of a function under way. `tables` has the locals' types and where blocks start and stop (crates/lower_state).
+// Terminators of blocks, and locals that are written at once.
 #![tactic(auto)]
 
-use ir::{BlockId, IrType, LocalId, Name};
+ghost use Rattle.std.specs.Prelude.{◌≡◌, ◌<◌};
+ghost use Rattle.std.proofs.Math.Option.{none, some};
+ghost use Rattle.definitions.specs.Ir.{Terminator};
+ghost use Rattle.ir.specs.Types.{as_type};
+ghost use Rattle.lower_walk.specs.Stmts.{terminate, terminate_if_open, next_arm, init_local};
+ghost use Rattle.lower_state.specs.Answers.{after};
+
+use ir::{BlockId, IrType, LocalId, ValueId};
+use lower_emit::{emit_branch, emit_jump, emit_return, emit_return_none, emit_write_local};
 use lower_state::{FnCtx, LoweringError};
 
-pub mod make; // new blocks and locals
-pub mod terminate; // terminating a block and switching to another
-
-// The three blocks of an If (then, else, merge), a While or a For (header, body, exit).
-#[derive(Clone, Copy)]
-pub struct Blocks {
-    pub first: BlockId,
-    pub second: BlockId,
-    pub third: BlockId,
+// `set_terminator` of a Jump.
+#[tactic(auto, unfolding(lower_walk::specs::Stmts::terminate))]
+pub fn jump(ctx: &mut FnCtx, target: BlockId)
+    ensures { ctx.new ≡ terminate (Terminator.Jump target.0) ctx.old }
+{
+    emit_jump(ctx, target);
+    ctx.close();
 }
 
-// The two locals of a For: its variable, and the end that it is compared with.
-#[derive(Clone, Copy)]
-pub struct Bounds {
-    pub var: LocalId,
-    pub end: LocalId,
+// `set_terminator` of a Branch.
+#[tactic(auto, unfolding(lower_walk::specs::Stmts::terminate))]
+pub fn branch(ctx: &mut FnCtx, condition: ValueId, yes: BlockId, no: BlockId)
+    ensures { ctx.new ≡ terminate (Terminator.Branch condition.0 yes.0 no.0) ctx.old }
+{
+    emit_branch(ctx, condition, yes, no);
+    ctx.close();
 }
 
-// After statements.
-#[derive(Clone, Copy)]
-pub enum Step {
-    Next(FnCtx),
-    Refused(LoweringError),
+// `set_terminator` of a Return of a value.
+#[tactic(auto, unfolding(lower_walk::specs::Stmts::terminate))]
+pub fn return_value(ctx: &mut FnCtx, value: ValueId)
+    ensures { ctx.new ≡ terminate (Terminator.Return (some value.0)) ctx.old }
+{
+    emit_return(ctx, value);
+    ctx.close();
 }
 
-// After a statement: a Let declares a name.
-#[derive(Clone, Copy)]
-pub enum Stepped {
-    Next(FnCtx),
-    Declared(FnCtx, Name, LocalId, IrType),
-    Refused(LoweringError),
+// `set_terminator` of a Return without a value.
+#[tactic(auto, unfolding(lower_walk::specs::Stmts::terminate))]
+pub fn return_none(ctx: &mut FnCtx)
+    ensures { ctx.new ≡ terminate (Terminator.Return none) ctx.old }
+{
+    emit_return_none(ctx);
+    ctx.close();
 }
 
-// With the blocks that were made.
-#[derive(Clone, Copy)]
-pub enum MadeBlocks {
-    Made(FnCtx, Blocks),
-    Refused(LoweringError),
+// The Return that ends a function whose last block is open.
+#[tactic(auto, unfolding(lower_walk::specs::Stmts::terminate_if_open))]
+pub fn return_if_open(ctx: &mut FnCtx)
+    ensures { ctx.new ≡ terminate_if_open (Terminator.Return none) ctx.old }
+{
+    if !ctx.is_ended() {
+        return_none(ctx);
+    }
 }
 
-// With the local that was made.
-#[derive(Clone, Copy)]
-pub enum MadeLocal {
-    Made(FnCtx, LocalId),
-    Refused(LoweringError),
+// The end of an arm or a body, which jumps to `target` if it is open; then the block `next`.
+pub fn next_arm(ctx: &mut FnCtx, target: BlockId, next: BlockId)
+    requires { next.0 < ctx.old.next_block }
+    ensures { ctx.new ≡ next_arm target.0 next.0 ctx.old }
+{
+    if !ctx.is_ended() {
+        jump(ctx, target);
+    }
+    ctx.switch_to(next);
 }
 
-// With the locals of a For.
-#[derive(Clone, Copy)]
-pub enum MadeBounds {
-    Made(FnCtx, Bounds),
-    Refused(LoweringError),
+// A new local to which a value is written at once.
+pub fn init_local(ctx: &mut FnCtx, ty: IrType, value: ValueId) -> Result<LocalId, LoweringError>
+    ensures { after (λ l. l.0) ctx.new result ≡ init_local (as_type ty) value.0 ctx.old }
+{
+    let local = ctx.new_local(ty)?;
+    emit_write_local(ctx, local, value);
+    Ok(local)
 }

@@ -1,5 +1,5 @@
 -- What laying a part of the program sheet down leaves in the output. Untrusted: helper definitions.
-use Rattle.std.specs.Prelude.{ℕ, ◌+◌, ◌≤◌, ◌<◌, ◌≡◌, List, leb, length}
+use Rattle.std.specs.Prelude.{ℕ, ◌+◌, ◌*◌, ◌≤◌, ◌<◌, ◌≡◌, List, leb, length, Option, None, Some}
 use Rattle.std.proofs.lemmas.List.Edits.{sets}
 use Rattle.definitions.specs.Records.{pick}
 
@@ -7,8 +7,8 @@ use Rattle.definitions.specs.Records.{pick}
 abbrev pub room_of : ℕ → ℕ
 room_of n = pick (leb n 32768) n 32768
 
--- x was written at `to`, and r is the place after it; if it does not fit, r is over every room
-pub record Laid (x before : List ℕ) (to : ℕ) (after : List ℕ) (r : ℕ) : Type 0 where
+-- x was written at `to`, and r is the place after it; None, if it does not fit
+pub record Laid (x before : List ℕ) (to : ℕ) (after : List ℕ) (r : Option ℕ) : Type 0 where
   pub same_length : length after ≡ length before
-  pub fits : to + length x ≤ room_of (length before) → (after ≡ sets before to x) × (r ≡ to + length x)
-  pub over : room_of (length before) < to + length x → r ≡ 32769
+  pub fits : to + length x ≤ room_of (length before) → (after ≡ sets before to x) × (r ≡ Some (to + length x))
+  pub over : room_of (length before) < to + length x → r ≡ None

@@ -1,34 +1,33 @@
 // The records of the functions' names at the program sheet's end: one for each distinct name in order of first appearance, with the last id of it.
 #![tactic(auto)]
 
-ghost use Rattle.std.specs.Prelude.{◌≡◌, Bool, ◌≤◌, length};
+ghost use Rattle.std.specs.Prelude.{ℕ, ◌≡◌, ◌*◌, ◌≤◌, length};
+ghost use Rattle.std.proofs.Math.Option.{some};
+ghost use Rattle.definitions.specs.Ir as defs;
 ghost use Rattle.definitions.specs.Records.{write_tree};
 ghost use Rattle.definitions.specs.ProgramSheet.{function_name_tree};
-ghost use Rattle.sheet.specs.Passed.{ContractPassed};
+ghost use Rattle.contract_nodes.specs.Nodes.{contract_in};
+ghost use Rattle.contract_lookup.specs.Answers.{id_named};
 ghost use Rattle.lower_layout.specs.Laid.{Laid};
-ghost use Rattle.lower_name_table.specs.NameTable.{names_of, Span};
+ghost use Rattle.lower_name_table.specs.NameTable.{is_named, names_of};
 
-use contract_lookup::by_place::last_function;
-use format::{ID, KIND, contract, kinds, program};
+use contract_lookup::items::Functions;
+use contract_lookup::symbols::signature_named;
+use format::kinds::Kind;
+use format::{ID, KIND, program};
 use ir::{FunctionId, Name};
-use lower_layout::room;
-use lower_state::LOST;
-use reader::{read, read_u16};
+use lower_layout::fits;
 use writer::write;
 
-// Whether a function before the place `at` has this name.
-fn named_before(s: &[u8], at: usize, name: Name) -> bool
-    requires { ContractPassed s.now × (at ≤ length s.now) }
-    ensures { (b : Bool) → Span s.now name.0 8 at b → result ≡ b }
+// Whether one of the first n functions has this name.
+fn named_before(functions: &Functions, n: usize, name: Name) -> bool
+    requires { n ≤ length (contract_in functions.now.contract).functions }
+    ensures { result ≡ is_named name.0 n (contract_in functions.now.contract).functions }
 {
-    let mut place = contract::CHILDREN;
-    while place < at {
-        if read(s, place + KIND, 2) == kinds::FUNCTION {
-            if read_u16(s, place + contract::NAME) == name.0 {
-                return true;
-            }
+    for i in 0..n {
+        if functions.get(i).unwrap().name() == name {
+            return true;
         }
-        place += read(s, place, 4);
     }
     false
 }
@@ -37,41 +36,40 @@ fn named_before(s: &[u8], at: usize, name: Name) -> bool
 const NAME_BYTES: usize = program::NAMED_ID + ID;
 
 // The record of a function's name: the name and the last id of it.
-fn lay_name(name: Name, id: FunctionId, out: &mut [u8], to: usize) -> usize
+fn lay_name(name: Name, id: FunctionId, out: &mut [u8], to: usize) -> Option<usize>
     ensures { Laid (write_tree (function_name_tree (name.0, id.0))) out.old to out.new result }
 {
-    let most = room(out);
-    if most < to {
-        return LOST;
-    }
-    if most - to < NAME_BYTES {
-        return LOST;
+    if !fits(out, to, NAME_BYTES) {
+        return None;
     }
     write(out, to, 4, NAME_BYTES);
-    write(out, to + KIND, 2, kinds::FUNCTION_NAME);
+    write(out, to + KIND, 2, u16::from(Kind::FunctionName) as usize);
     write(out, to + program::NAME_OF, 2, name.0 as usize);
     write(out, to + program::NAMED_ID, 2, id.0 as usize);
-    to + NAME_BYTES
+    Some(to + NAME_BYTES)
 }
 
-// A record for each distinct name in order of first appearance, with the last id.
-pub fn lay_names(s: &[u8], out: &mut [u8], to: usize) -> usize
-    requires { ContractPassed s.now }
-    ensures { Laid (names_of s.now) out.old to out.new result }
+// The last id of a name that a function has.
+fn last_id(functions: &Functions, name: Name) -> FunctionId
+    requires { (p : ℕ × defs.IrType) × (id_named (contract_in functions.now.contract) name.0 ≡ some p) }
+    ensures { (i : ℕ) (t : defs.IrType) → id_named (contract_in functions.now.contract) name.0 ≡ some (i, t) → result.0 ≡ i }
 {
-    if room(out) < to {
-        return LOST;
+    signature_named(functions.contract, name).unwrap().function
+}
+
+// A record for each distinct name in order of first appearance, with the last id; the place behind them, if they fit.
+pub fn lay_names(functions: &Functions, out: &mut [u8], to: usize) -> Option<usize>
+    ensures { Laid (names_of (contract_in functions.now.contract)) out.old to out.new result }
+{
+    if !fits(out, to, 0) {
+        return None;
     }
     let mut at = to;
-    let mut place = contract::CHILDREN;
-    while place < s.len() {
-        if read(s, place + KIND, 2) == kinds::FUNCTION {
-            let name = Name::new(read_u16(s, place + contract::NAME));
-            if !named_before(s, place, name) {
-                at = lay_name(name, last_function(s, name), out, at);
-            }
+    for i in 0..functions.len() {
+        let name = functions.get(i).unwrap().name();
+        if !named_before(functions, i, name) {
+            at = lay_name(name, last_id(functions, name), out, at)?;
         }
-        place += read(s, place, 4);
     }
-    at
+    Some(at)
 }

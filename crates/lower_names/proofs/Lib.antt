@@ -1,2 +1,2 @@
-mod Packed
-mod Symbolic
+mod HeldList
+mod OffsetSteps

@@ -1,1 +1,1 @@
-mod SimpleSteps
+pub mod Emitting

@@ -1,222 +1,118 @@
 // Statements that have no statements in them.
 #![tactic(auto)]
 
-ghost use Rattle.std.specs.Prelude.{◌≡◌, List, ℕ, ◌≤◌};
-ghost use Rattle.definitions.specs.Grammar.{Class};
-ghost use Rattle.sheet.specs.Passed.{record_kind};
-ghost use Rattle.contract_nodes.specs.Ready.{Ready};
-ghost use Rattle.sheet.specs.Passed.{ContractPassed};
-ghost use Rattle.lower_state.specs.State.{Sound};
-ghost use Rattle.lower_flow.specs.Done.{StmtDone};
+ghost use Rattle.std.specs.Prelude.{◌≡◌, ℕ, ◌≤◌, length};
+ghost use Rattle.definitions.specs.Ast.{Stmt, present};
+ghost use Rattle.contract_nodes.specs.Nodes.{contract_in, expr_in, exprs_in, count_of};
+ghost use Rattle.lower_walk.specs.Stmts.{walk_stmt};
+ghost use Rattle.lower_simple.specs.Stated.{stated};
 
-use contract_lookup::by_place::{name_at, storage_slot};
-use format::{HEAD, contract};
-use ir::ValueId;
-use lower_exprs::{copied, lower_expr, lower_expr_value};
-use lower_flow::make::init_local;
-use lower_flow::terminate::{return_none, return_value};
-use lower_flow::{MadeLocal, Stepped};
-use lower_names::{Entries, Lookup, Top};
-use lower_state::{FnCtx, Log, LoweringError, Tables};
-use lower_values::{Lowered, Valued};
-use reader::read;
+use contract_lookup::symbols::storage_slot;
+use contract_nodes::{Expr, Exprs};
+use ir::Name;
+use lower_emit::{Args, emit_assert, emit_event, emit_state_write, emit_write_local};
+use lower_exprs::{lower_expr, lower_expr_value};
+use lower_flow::{init_local, return_value};
+use lower_names::Scopes;
+use lower_state::{FnCtx, LoweringError};
 
 // Let: the expression, then its local; the name is held from then on.
+#[tactic(auto, unfolding(lower_walk::specs::Stmts::walk_stmt))]
 pub fn lower_let(
-    s: &[u8],
-    at: usize,
-    depth: usize,
-    entries: &Entries,
-    top: Top,
-    ctx: FnCtx,
-    log: &mut Log,
-    tables: &mut Tables,
-) -> Stepped
-    requires ready { Ready Class.statement s.now at depth × (ContractPassed s.now × (record_kind s.now at ≡ 10)) }
-    requires sound { Sound ctx × (top.count ≤ 256) }
-    ensures { StmtDone s.now at entries.now top log.old tables.old ctx log.new tables.new result }
+    ctx: &mut FnCtx,
+    scopes: &mut Scopes,
+    name: Name,
+    e: Expr,
+) -> Result<(), LoweringError>
+    requires { length scopes.old.held ≤ length ctx.old.locals }
+    ensures is { (p : ℕ) → stated ctx.new scopes.new result ≡ walk_stmt (contract_in e.entry.contract) scopes.old.scope scopes.old.held (Stmt.Let p name.0 (expr_in e.entry)) ctx.old }
+    ensures same_scope { scopes.new.scope ≡ scopes.old.scope }
 {
-    let value = at + contract::AFTER_NAME;
-    let lowered = lower_expr_value(s, value, depth - 1, entries, top, ctx, log);
-    match lowered {
-        Valued::Value(next, v, ty) => {
-            let made = init_local(next, ty, v, log, tables);
-            match made {
-                MadeLocal::Made(next, local) => Stepped::Declared(next, name_at(s, at), local, ty),
-                MadeLocal::Refused(e) => Stepped::Refused(e),
-            }
-        }
-        Valued::Refused(e) => Stepped::Refused(e),
-    }
+    let (value, ty) = lower_expr_value(ctx, scopes, e)?;
+    let local = init_local(ctx, ty, value)?;
+    scopes.declare(name, local, ty);
+    Ok(())
 }
 
 // Constrain.
-pub fn lower_constrain(
-    s: &[u8],
-    at: usize,
-    depth: usize,
-    entries: &Entries,
-    top: Top,
-    ctx: FnCtx,
-    log: &mut Log,
-) -> Stepped
-    requires ready { Ready Class.statement s.now at depth × (ContractPassed s.now × (record_kind s.now at ≡ 11)) }
-    requires sound { Sound ctx × (top.count ≤ 256) }
-    ensures { (tables : List ℕ) → StmtDone s.now at entries.now top log.old tables ctx log.new tables result }
+#[tactic(auto, unfolding(lower_walk::specs::Stmts::walk_stmt))]
+pub fn lower_constrain(ctx: &mut FnCtx, scopes: &Scopes, e: Expr) -> Result<(), LoweringError>
+    ensures { (p : ℕ) → stated ctx.new scopes.now result ≡ walk_stmt (contract_in e.entry.contract) scopes.now.scope scopes.now.held (Stmt.Constrain p (expr_in e.entry)) ctx.old }
 {
-    let lowered = lower_expr_value(s, at + HEAD, depth - 1, entries, top, ctx, log);
-    match lowered {
-        Valued::Value(next, v, _) => Stepped::Next(lower_emit::emit_assert(log, next, v)),
-        Valued::Refused(e) => Stepped::Refused(e),
-    }
+    let (value, _) = lower_expr_value(ctx, scopes, e)?;
+    emit_assert(ctx, value);
+    Ok(())
 }
 
 // Assign: the expression, then the name.
+#[tactic(auto, unfolding(lower_walk::specs::Stmts::walk_stmt))]
 pub fn lower_assign(
-    s: &[u8],
-    at: usize,
-    depth: usize,
-    entries: &Entries,
-    top: Top,
-    ctx: FnCtx,
-    log: &mut Log,
-) -> Stepped
-    requires ready { Ready Class.statement s.now at depth × (ContractPassed s.now × (record_kind s.now at ≡ 12)) }
-    requires sound { Sound ctx × (top.count ≤ 256) }
-    ensures { (tables : List ℕ) → StmtDone s.now at entries.now top log.old tables ctx log.new tables result }
+    ctx: &mut FnCtx,
+    scopes: &Scopes,
+    name: Name,
+    e: Expr,
+) -> Result<(), LoweringError>
+    ensures { (p : ℕ) → stated ctx.new scopes.now result ≡ walk_stmt (contract_in e.entry.contract) scopes.now.scope scopes.now.held (Stmt.Assign p name.0 (expr_in e.entry)) ctx.old }
 {
-    let name = name_at(s, at);
-    let value = at + contract::AFTER_NAME;
-    let lowered = lower_expr_value(s, value, depth - 1, entries, top, ctx, log);
-    match lowered {
-        Valued::Value(next, v, _) => {
-            let found = lower_names::held::find(entries, top, name);
-            match found {
-                Lookup::Local(local, _) => Stepped::Next(lower_emit::emit_write_local(
-                    log, next, local, v,
-                )),
-                Lookup::NotHeld => Stepped::Refused(LoweringError::UndefinedVariable(name)),
-            }
-        }
-        Valued::Refused(e) => Stepped::Refused(e),
-    }
+    let (value, _) = lower_expr_value(ctx, scopes, e)?;
+    let (local, _) = scopes
+        .lookup(name)
+        .ok_or(LoweringError::UndefinedVariable(name))?;
+    emit_write_local(ctx, local, value);
+    Ok(())
 }
 
-// StorageWrite: the name, then the expression. Neither depends on the other, so both are done before they are judged; if both are
-// refused, the name's refusal serves.
+// StorageWrite: the name, then the expression.
+#[tactic(auto, unfolding(lower_walk::specs::Stmts::walk_stmt, contract_lookup::specs::Answers::slot_named))]
 pub fn lower_storage_write(
-    s: &[u8],
-    at: usize,
-    depth: usize,
-    entries: &Entries,
-    top: Top,
-    ctx: FnCtx,
-    log: &mut Log,
-) -> Stepped
-    requires ready { Ready Class.statement s.now at depth × (ContractPassed s.now × (record_kind s.now at ≡ 13)) }
-    requires sound { Sound ctx × (top.count ≤ 256) }
-    ensures { (tables : List ℕ) → StmtDone s.now at entries.now top log.old tables ctx log.new tables result }
+    ctx: &mut FnCtx,
+    scopes: &Scopes,
+    name: Name,
+    e: Expr,
+) -> Result<(), LoweringError>
+    ensures { (p : ℕ) → stated ctx.new scopes.now result ≡ walk_stmt (contract_in e.entry.contract) scopes.now.scope scopes.now.held (Stmt.StorageWrite p name.0 (expr_in e.entry)) ctx.old }
 {
-    let name = name_at(s, at);
-    let found = storage_slot(s, name);
-    let value = at + contract::AFTER_NAME;
-    let lowered = lower_expr_value(s, value, depth - 1, entries, top, ctx, log);
-    match lowered {
-        Valued::Value(next, v, _) => match found {
-            Some(slot) => Stepped::Next(lower_emit::emit_state_write(log, next, slot, v)),
-            None => Stepped::Refused(LoweringError::UndefinedVariable(name)),
-        },
-        Valued::Refused(e) => {
-            let unnamed = LoweringError::UndefinedVariable(name);
-            match found {
-                Some(_) => Stepped::Refused(e),
-                None => Stepped::Refused(unnamed),
-            }
-        }
-    }
+    let slot = storage_slot(e.contract, name).ok_or(LoweringError::UndefinedVariable(name))?;
+    let (value, _) = lower_expr_value(ctx, scopes, e)?;
+    emit_state_write(ctx, slot, value);
+    Ok(())
 }
 
-// Return, perhaps of a value.
-pub fn lower_return(
-    s: &[u8],
-    at: usize,
-    depth: usize,
-    entries: &Entries,
-    top: Top,
-    ctx: FnCtx,
-    log: &mut Log,
-    tables: &mut Tables,
-) -> Stepped
-    requires ready { Ready Class.statement s.now at depth × (ContractPassed s.now × (record_kind s.now at ≡ 18)) }
-    requires sound { Sound ctx × (top.count ≤ 256) }
-    ensures { StmtDone s.now at entries.now top log.old tables.old ctx log.new tables.new result }
+// Return of a value.
+#[tactic(auto, unfolding(lower_walk::specs::Stmts::walk_stmt, lower_walk::specs::Stmts::walk_return))]
+pub fn lower_return(ctx: &mut FnCtx, scopes: &Scopes, e: Expr) -> Result<(), LoweringError>
+    ensures { (p : ℕ) → stated ctx.new scopes.now result ≡ walk_stmt (contract_in e.entry.contract) scopes.now.scope scopes.now.held (Stmt.Return p (present (expr_in e.entry))) ctx.old }
 {
-    let value = at + HEAD;
-    let stop = at + read(s, at, 4);
-    if stop <= value {
-        return Stepped::Next(return_none(ctx, log, tables));
-    }
-    let lowered = lower_expr_value(s, value, depth - 1, entries, top, ctx, log);
-    match lowered {
-        Valued::Value(next, v, _) => Stepped::Next(return_value(next, v, log, tables)),
-        Valued::Refused(e) => Stepped::Refused(e),
-    }
+    let (value, _) = lower_expr_value(ctx, scopes, e)?;
+    return_value(ctx, value);
+    Ok(())
 }
 
 // Emit: the arguments, then the event.
 pub fn lower_emit(
-    s: &[u8],
-    at: usize,
-    depth: usize,
-    entries: &Entries,
-    top: Top,
-    ctx: FnCtx,
-    log: &mut Log,
-) -> Stepped
-    requires ready { Ready Class.statement s.now at depth × (ContractPassed s.now × (record_kind s.now at ≡ 19)) }
-    requires sound { Sound ctx × (top.count ≤ 256) }
-    ensures { (tables : List ℕ) → StmtDone s.now at entries.now top log.old tables ctx log.new tables result }
+    ctx: &mut FnCtx,
+    scopes: &Scopes,
+    event: Name,
+    args: Exprs,
+) -> Result<(), LoweringError>
+    requires { count_of (exprs_in args) ≤ 16 }
+    ensures { (p : ℕ) → stated ctx.new scopes.now result ≡ walk_stmt (contract_in args.entry.contract) scopes.now.scope scopes.now.held (Stmt.Emit p event.0 (exprs_in args.entry)) ctx.old }
 {
-    let stop = at + read(s, at, 4);
-    let mut arg = at + contract::AFTER_NAME;
-    let mut ids = [ValueId(0); 16];
-    let mut n = 0;
-    let mut ctx = ctx;
-    while arg < stop {
-        let lowered = lower_expr_value(s, arg, depth - 1, entries, top, ctx, log);
-        match lowered {
-            Valued::Value(next, v, _) => {
-                ids[n] = v;
-                n += 1;
-                arg += read(s, arg, 4);
-                ctx = next;
-            }
-            Valued::Refused(e) => {
-                return Stepped::Refused(e);
-            }
-        }
+    let mut values = Args::new();
+    let mut args = args;
+    while let Some(arg) = args.next() {
+        let (value, _) = lower_expr_value(ctx, scopes, arg)?;
+        values.push(value);
     }
-    Stepped::Next(lower_emit::emit_event(log, ctx, name_at(s, at), ids, n))
+    emit_event(ctx, event, &values);
+    Ok(())
 }
 
 // An expression as a statement; what it gives is not used.
-pub fn lower_expr_stmt(
-    s: &[u8],
-    at: usize,
-    depth: usize,
-    entries: &Entries,
-    top: Top,
-    ctx: FnCtx,
-    log: &mut Log,
-) -> Stepped
-    requires ready { Ready Class.statement s.now at depth × (ContractPassed s.now × (record_kind s.now at ≡ 20)) }
-    requires sound { Sound ctx × (top.count ≤ 256) }
-    ensures { (tables : List ℕ) → StmtDone s.now at entries.now top log.old tables ctx log.new tables result }
+#[tactic(auto, unfolding(lower_walk::specs::Stmts::walk_stmt))]
+pub fn lower_expr_stmt(ctx: &mut FnCtx, scopes: &Scopes, e: Expr) -> Result<(), LoweringError>
+    ensures { (p : ℕ) → stated ctx.new scopes.now result ≡ walk_stmt (contract_in e.entry.contract) scopes.now.scope scopes.now.held (Stmt.ExprStmt p (expr_in e.entry)) ctx.old }
 {
-    let lowered = lower_expr(s, at + HEAD, depth - 1, entries, top, ctx, log);
-    match lowered {
-        Lowered::Value(next, _, _) => Stepped::Next(copied(next)),
-        Lowered::Void(next) => Stepped::Next(copied(next)),
-        Lowered::Refused(e) => Stepped::Refused(e),
-    }
+    lower_expr(ctx, scopes, e)?;
+    Ok(())
 }

@@ -1,7 +1,7 @@
 -- The code's errors as the definitions' errors. Assumes nothing: these are definitions.
 use Rattle.definitions.specs.Lower as lowering
-use Rattle.lower_state.specs.declared.LoweringError.{LoweringError}
-use Rattle.lower_state.specs.declared.LoweringError.TheVariants as code
+use Rattle.lower_state.specs.declared.refusals.LoweringError.{LoweringError}
+use Rattle.lower_state.specs.declared.refusals.LoweringError.TheVariants as code
 
 abbrev pub error_of : LoweringError → lowering.LoweringError
 error_of (code.UnresolvedType n) = lowering.LoweringError.UnresolvedType n.0

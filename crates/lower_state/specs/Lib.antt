@@ -1,2 +1,4 @@
 pub mod Errors
+pub mod Answers
+pub mod Bytes
 pub mod State

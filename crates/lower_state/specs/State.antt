@@ -1,63 +1,41 @@
--- The code's state, with the arrays that are lent, in the words of the walk. Assumes nothing: these are definitions.
-use Rattle.std.specs.Prelude.{ℕ, ◌/◌, ◌%◌, ◌≤◌, ◌<◌, ◌≡◌, List, map, Bool, false, take, drop}
+-- The code's state in the words of the walk. Assumes nothing: these are definitions.
+use Rattle.std.specs.Prelude.{ℕ, ◌≤◌, ◌<◌, List, map, take, length, set, ltb, true}
 use Rattle.definitions.specs.Ir.{IrType}
-use Rattle.definitions.specs.Records.{type_from}
-use Rattle.ir.specs.declared.FunctionId.{FunctionId}
-use Rattle.lower_counters.specs.declared.Counters.{Counters}
-use Rattle.lower_walk.specs.Log.{Log, log_of}
-use Rattle.lower_walk.specs.Stmts.{LogCtx}
-use Rattle.lower_state.specs.declared.FnCtx.{FnCtx}
-
-abbrev pub new_ctx : FunctionId → FnCtx
-new_ctx f = record { function = f; counters = record { value = 0; block = 1; local = 0 }; current = record { 0 = 0 }; ended = false; to = 0 }
-
-abbrev pub with_counters : FnCtx → Counters → FnCtx
-with_counters c k = record { function = c.function; counters = k; current = c.current; ended = c.ended; to = c.to }
-
--- the log, and all but the log
-abbrev pub log_in : List ℕ → FnCtx → Log
-log_in log c = log_of log c.counters.value c.to
-
-pub record Frame : Type 0 where
-  pub fid : ℕ
-  pub blocks : ℕ
-  pub locals : ℕ
-  pub current : ℕ
-  pub ended : Bool
-
-abbrev pub frame_of : FnCtx → Frame
-frame_of c = record { fid = c.function.0; blocks = c.counters.block; locals = c.counters.local; current = c.current.0; ended = c.ended }
-
--- the types of the first n locals, four bytes each: tag and name
-unfoldable pub locals_of : List ℕ → ℕ → List IrType
-locals_of tables n = map (λ (t : ℕ). type_from (t % 65536) (t / 65536)) (take n tables)
+use Rattle.definitions.specs.Records.{pick}
+use Rattle.definitions.specs.Result.{err, ok}
+use Rattle.definitions.specs.Lower.{LoweringError, Lowering}
+use Rattle.ir.specs.Types.{as_type}
+use Rattle.lower_walk.specs.Log.{log_of}
+use Rattle.lower_walk.specs.Stmts as walk
+use Rattle.lower_walk.specs.Stmts.{LogCtx, with_local}
+use Rattle.lower_state.specs.declared.ctx.Blocks.{Blocks}
+use Rattle.lower_state.specs.declared.ctx.Span.{Span}
+use Rattle.lower_state.specs.declared.ctx.FnCtx.TheInside.{Inside}
 
 -- where blocks start and stop
-unfoldable pub starts_of : List ℕ → List ℕ
-starts_of tables = take 256 (drop 256 tables)
+abbrev pub starts_of : List Span → List ℕ
+starts_of spans = map (λ (s : Span). s.start) spans
 
-unfoldable pub stops_of : List ℕ → List ℕ
-stops_of tables = drop 512 tables
+abbrev pub stops_of : List Span → List ℕ
+stops_of spans = map (λ (s : Span). s.stop) spans
 
-abbrev pub ctx_with : Frame → Log → (tables : List ℕ) → LogCtx
-ctx_with f l tables = record { fid = f.fid; log = l; next_block = f.blocks; current = f.current; ended = f.ended; locals = locals_of tables f.locals; starts = starts_of tables; stops = stops_of tables }
-
--- the state as the walk has it
-abbrev pub ctx_in : (log tables : List ℕ) → FnCtx → LogCtx
-ctx_in log tables c = ctx_with (frame_of c) (log_in log c) tables
-
--- the log alone has changed
-abbrev pub SameFrame : FnCtx → FnCtx → Type 0
-SameFrame c d = frame_of d ≡ frame_of c
+abbrev pub ctx_in : Inside → LogCtx
+ctx_in c =
+    record { fid = c.function.0; log = log_of c.log c.counters.value c.to; next_block = c.counters.block; current = c.current.0; ended = c.ended; locals = map as_type (take c.counters.local c.locals); starts = starts_of c.spans; stops = stops_of c.spans }
 
 -- up to 256 blocks and locals, and the current block is one of them
-pub record Sound (c : FnCtx) : Type 0 where
+pub record Sound (c : Inside) : Type 0 where
   pub blocks : c.counters.block ≤ 256
   pub locals : c.counters.local ≤ 256
   pub current : c.current.0 < c.counters.block
 
--- no block and no local is lost
-pub record Grown (c d : FnCtx) : Type 0 where
-  pub sound : Sound d
-  pub blocks : c.counters.block ≤ d.counters.block
-  pub locals : c.counters.local ≤ d.counters.local
+abbrev pub blocks_of : Blocks → walk.Blocks
+blocks_of b = record { first = b.first.0; second = b.second.0; third = b.third.0 }
+
+-- a new local, with nothing written to it
+abbrev pub new_local : IrType → LogCtx → Lowering (LogCtx × ℕ)
+new_local t c = pick (ltb (length c.locals) 256) (ok (with_local t c, length c.locals)) (err (LoweringError.TooManyBlocksOrLocals c.fid))
+
+-- the current block's records stop where the log ends
+abbrev pub closed : LogCtx → LogCtx
+closed c = record { fid = c.fid; log = c.log; next_block = c.next_block; current = c.current; ended = true; locals = c.locals; starts = c.starts; stops = set c.stops c.current c.log.at }

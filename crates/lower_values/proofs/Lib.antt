@@ -1,2 +1,2 @@
 pub mod Answered
-mod Called
+pub mod Called

@@ -1,8 +1,8 @@
 -- A call in two steps: what is called, then the call of it once the arguments have their values. Untrusted: helper definitions, shown
 -- equal to `walk_call`.
-use Rattle.std.specs.Prelude.{ℕ, List, true, false, eqb}
+use Rattle.std.specs.Prelude.{ℕ, List, [], true, false, eqb}
 use Rattle.definitions.specs.Result.{err, ok, ◌>>=◌, ok_or_else}
-use Rattle.definitions.specs.Ast.{Exprs, enil, Contract}
+use Rattle.definitions.specs.Ast.{Contract}
 use Rattle.definitions.specs.Ir.{IrType, Instruction}
 use Rattle.definitions.specs.Lower.{LoweringError, Lowering, Callee, context_fn, poseidon_fn, merkle_proof_fn, user_fn, callee, two_of}
 use Rattle.contract_lookup.specs.Answers.{id_named}
@@ -30,25 +30,20 @@ resolve_fn K user_fn n many = resolve_user K n
 unfoldable pub resolve : Contract → ℕ → ℕ → Lowering Called
 resolve K n many = resolve_fn K (callee n) n many
 
--- the arguments that are lowered: a context read ignores its own
-abbrev pub args_for : Lowering Called → Exprs → Exprs
-args_for (err x) es = enil
-args_for (ok (context k)) es = enil
-args_for (ok poseidon_call) es = es
-args_for (ok (user_call f t)) es = es
-
--- where they start, if the record's arguments start at `first` and end at `stop`
-abbrev pub first_argument : Lowering Called → (first stop : ℕ) → ℕ
-first_argument (err x) first stop = stop
-first_argument (ok (context k)) first stop = stop
-first_argument (ok poseidon_call) first stop = first
-first_argument (ok (user_call f t)) first stop = first
-
 -- the call, its arguments' values being known
-abbrev pub finish_call : Lowering Called → List ℕ → Log → Lowering Walked
-finish_call (err x) args c = err x
-finish_call (ok (context k)) args c = ok (push_value (Instruction.ContextRead k) IrType.U64 c)
-finish_call (ok poseidon_call) args c = do
+abbrev pub finish_call : Called → List ℕ → Log → Lowering Walked
+finish_call (context k) args c = ok (push_value (Instruction.ContextRead k) IrType.U64 c)
+finish_call poseidon_call args c = do
   (lhs, rhs) ← ok_or_else (two_of args) LoweringError.PoseidonArguments
   ok (push_value (Instruction.Poseidon lhs rhs) IrType.U64 c)
-finish_call (ok (user_call f t)) args c = ok (walk_user_call f t args c)
+finish_call (user_call f t) args c = ok (walk_user_call f t args c)
+
+-- what is left of a call, once it is known what is called: its arguments, which a read of the context ignores, and the call itself
+abbrev pub with_arguments : Called → (Log → Lowering (Log × List ℕ)) → Log → Lowering Walked
+with_arguments (context k) walkArguments c = finish_call (context k) [] c
+with_arguments poseidon_call walkArguments c = do
+  (c, args) ← walkArguments c
+  finish_call poseidon_call args c
+with_arguments (user_call f t) walkArguments c = do
+  (c, args) ← walkArguments c
+  finish_call (user_call f t) args c

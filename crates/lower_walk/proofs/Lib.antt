@@ -7,3 +7,4 @@ pub mod Steps
 pub mod Statements
 pub mod Laid
 pub mod Functions
+pub mod Grown

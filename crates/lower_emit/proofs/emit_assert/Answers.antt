@@ -1,8 +1,8 @@
 -- `lower_emit::emit_assert`: the bytes are those of Assert. Assumes nothing.
-use mathlib.Core.Path.{refl}
+use mathlib.Core.Path.{refl, ◌∙◌}
 use Rattle.definitions.specs.Ir.{Instruction}
 use Rattle.lower_emit.proofs.Written.{appends}
 use Rattle.lower_emit.proofs.emit_assert.Goals as goal
 
 pub returns : goal.returns
-returns c = let a = c.args in appends (Instruction.Assert a.condition.0) refl c.put_record-to.ensures c.after_record.ensures
+returns c = let a = c.args in c.append.ensures ∙ appends (Instruction.Assert a.condition.0) a.ctx.now refl

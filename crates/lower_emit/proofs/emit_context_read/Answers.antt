@@ -1,8 +1,13 @@
 -- `lower_emit::emit_context_read`: the bytes are those of ContextRead. Assumes nothing.
 use mathlib.Core.Path.{refl}
 use Rattle.definitions.specs.Ir.{Instruction}
+use Rattle.format.specs.Contexts.{context_number}
+use Rattle.lower_emit.proofs.Numbers.{context_is}
 use Rattle.lower_emit.proofs.Written.{pushes}
 use Rattle.lower_emit.proofs.emit_context_read.Goals as goal
 
 pub returns : goal.returns
-returns c = let a = c.args in pushes (Instruction.ContextRead a.kind) refl c.next_value-taken.ensures c.put_record-to.ensures c.after_value.ensures
+returns c =
+    let a = c.args in
+    let id = c.next_value-id.ensures in
+    pushes (Instruction.ContextRead (context_number a.context)) refl id.number id.counted (rw (context_is a.context) at c.append.ensures)

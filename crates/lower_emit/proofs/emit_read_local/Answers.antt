@@ -8,5 +8,5 @@ use Rattle.lower_emit.proofs.emit_read_local.Goals as goal
 pub returns : goal.returns
 returns c =
     let a = c.args in
-    let code = c.from.ensures.0 in
-    pushes (Instruction.ReadLocal a.local.0 (as_type a.ty)) refl c.next_value-taken.ensures (rw code at c.put_record-to.ensures) c.after_value.ensures
+    let id = c.next_value-id.ensures in
+    pushes (Instruction.ReadLocal a.local.0 (as_type a.ty)) refl id.number id.counted (rw (c.type_part.ensures.0, c.type_part.ensures.1) at c.append.ensures)

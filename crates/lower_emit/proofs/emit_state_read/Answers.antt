@@ -5,4 +5,7 @@ use Rattle.lower_emit.proofs.Written.{pushes}
 use Rattle.lower_emit.proofs.emit_state_read.Goals as goal
 
 pub returns : goal.returns
-returns c = let a = c.args in pushes (Instruction.StateRead IrType.U64 a.slot) refl c.next_value-taken.ensures c.put_record-to.ensures c.after_value.ensures
+returns c =
+    let a = c.args in
+    let id = c.next_value-id.ensures in
+    pushes (Instruction.StateRead IrType.U64 a.slot) refl id.number id.counted c.append.ensures

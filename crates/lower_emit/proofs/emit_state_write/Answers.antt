@@ -1,8 +1,8 @@
 -- `lower_emit::emit_state_write`: the bytes are those of StateWrite. Assumes nothing.
-use mathlib.Core.Path.{refl}
+use mathlib.Core.Path.{refl, ◌∙◌}
 use Rattle.definitions.specs.Ir.{Instruction}
 use Rattle.lower_emit.proofs.Written.{appends}
 use Rattle.lower_emit.proofs.emit_state_write.Goals as goal
 
 pub returns : goal.returns
-returns c = let a = c.args in appends (Instruction.StateWrite a.slot a.value.0) refl c.put_record-to.ensures c.after_record.ensures
+returns c = let a = c.args in c.append.ensures ∙ appends (Instruction.StateWrite a.slot a.value.0) a.ctx.now refl

@@ -1,191 +1,96 @@
--- The cycle of expressions meets its contracts. In `lower_expr` each arm is a lemma of ExprSteps for its kind; in `lower_call` the lemmas of
--- ArgSteps and CallSteps are on the arguments that are left. Assumes nothing.
-use mathlib.Core.Path.{refl, ap, sym, ◌∙◌}
-use Prim.Native.Nat.{ℕ, ◌+◌}
-use native.Mathlib.Omega.{arith}
-use Rattle.definitions.specs.Grammar.{Class, many, done}
-use Rattle.contract_nodes.proofs.Children.{bounds, size_fits}
-use Rattle.contract_nodes.proofs.ExprPlaces.{call_at, int_at, ident_at, storage_at, access_at, binary_at}
-use Rattle.lower_values.proofs.Answered.{same_after}
-use Rattle.lower_exprs.proofs.ArgSteps.{turn, goes_on, refuses, finishes}
-use Rattle.lower_exprs.proofs.CallSteps.{call_starts}
-use Rattle.lower_exprs.proofs.ExprSteps.{gave, refused, gave_same, call_kind, int_walks, ident_walks, storage_walks, mapping_walks, access_walks, struct_walks, binary_walks, binary_refused, value_value, value_void, value_refused}
+-- The cycle of expressions meets its contracts. Assumes nothing.
+use mathlib.Core.Path.{refl, ap, ◌∙◌}
+use Rattle.std.proofs.lemmas.Result.{err_from_is_err_and}
+use Rattle.definitions.specs.Result.{◌>>=◌}
+use Rattle.definitions.specs.Lower.{Lowering}
+use Rattle.lower_walk.specs.Exprs.{Walked, need_value, walk_expr_value}
+use Rattle.lower_exprs.proofs.ArgSteps.{then_alone, finishes, goes_on, refuses}
+use Rattle.lower_exprs.proofs.CallSteps.{not_called, context_read, call_starts}
+use Rattle.lower_exprs.proofs.ExprSteps.{value_on_sheet, needed, base_refused, field_walks, left_refused, right_refused, binary_walks}
 use Rattle.lower_exprs.proofs.+exprs.Goals as goal
 
--- A CALL: before the loop
-pub lower_call-name_at-requires : goal.lower_call-name_at-requires
-lower_call-name_at-requires t c =
-    let o = call_at c.requires.ready.0 c.requires.at_value in
-    (omega (arith, o.fits, o.inside), omega (arith, o.fits, o.inside, c.requires.ready.1.0.short))
+-- AN EXPRESSION
+pub lower_expr-returns-in_err-base-in-FieldAccess-clause-is : goal.lower_expr-returns-in_err-base-in-FieldAccess-clause-is
+lower_expr-returns-in_err-base-in-FieldAccess-clause-is t c =
+    let p = err_from_is_err_and c.from_residual-in_err-base-in-FieldAccess.result c.from_residual-in_err-base-in-FieldAccess.ensures.1 in
+    rw (p.1, p.2, c.in-FieldAccess.ensures.is)
+    (base_refused _ _ _ _ _ _ (value_on_sheet _ _ _ c.in-FieldAccess.ensures.parts.0 c.in_err-base-in-FieldAccess.ensures.is))
 
-pub lower_call-count-requires : goal.lower_call-count-requires
-lower_call-count-requires t c =
-    let o = call_at c.requires.ready.0 c.requires.at_value in
-    rw c.read.ensures.0 (record { pattern = many Class.expression done; fine = o.args.fine }, o.inside)
+pub lower_expr-returns-in_err-lower_field-in-FieldAccess-clause-is : goal.lower_expr-returns-in_err-lower_field-in-FieldAccess-clause-is
+lower_expr-returns-in_err-lower_field-in-FieldAccess-clause-is t c =
+    let p = err_from_is_err_and c.from_residual-in_err-lower_field-in-FieldAccess.result c.from_residual-in_err-lower_field-in-FieldAccess.ensures.1 in
+    rw (p.1, p.2, c.in-FieldAccess.ensures.is)
+    (field_walks _ _ _ _ _ _ (value_on_sheet _ _ _ c.in-FieldAccess.ensures.parts.0 c.in_ok-base-in-FieldAccess.ensures.is) c.in_err-lower_field-in-FieldAccess.ensures.is)
+
+pub lower_expr-returns-in_ok-lower_field-in-FieldAccess-clause-is : goal.lower_expr-returns-in_ok-lower_field-in-FieldAccess-clause-is
+lower_expr-returns-in_ok-lower_field-in-FieldAccess-clause-is t c =
+    rw c.in-FieldAccess.ensures.is
+    (field_walks _ _ _ _ _ _ (value_on_sheet _ _ _ c.in-FieldAccess.ensures.parts.0 c.in_ok-base-in-FieldAccess.ensures.is) c.in_ok-lower_field-in-FieldAccess.ensures.is)
+
+pub lower_expr-returns-in_err-lhs-in-Binary-clause-is : goal.lower_expr-returns-in_err-lhs-in-Binary-clause-is
+lower_expr-returns-in_err-lhs-in-Binary-clause-is t c =
+    let p = err_from_is_err_and c.from_residual-in_err-lhs-in-Binary.result c.from_residual-in_err-lhs-in-Binary.ensures.1 in
+    rw (p.1, p.2, c.in-Binary.ensures.is)
+    (left_refused _ _ _ _ _ _ _ (value_on_sheet _ _ _ c.in-Binary.ensures.parts.0.0 c.in_err-lhs-in-Binary.ensures.is))
+
+pub lower_expr-returns-in_err-rhs-in-Binary-clause-is : goal.lower_expr-returns-in_err-rhs-in-Binary-clause-is
+lower_expr-returns-in_err-rhs-in-Binary-clause-is t c =
+    let p = err_from_is_err_and c.from_residual-in_err-rhs-in-Binary.result c.from_residual-in_err-rhs-in-Binary.ensures.1 in
+    rw (p.1, p.2, c.in-Binary.ensures.is)
+    (right_refused _ _ _ _ _ _ _ (value_on_sheet _ _ _ c.in-Binary.ensures.parts.0.0 c.in_ok-lhs-in-Binary.ensures.is) (value_on_sheet _ _ _ c.in-Binary.ensures.parts.1.0 c.in_err-rhs-in-Binary.ensures.is))
+
+pub lower_expr-returns-in_ok-rhs-in-Binary-clause-is : goal.lower_expr-returns-in_ok-rhs-in-Binary-clause-is
+lower_expr-returns-in_ok-rhs-in-Binary-clause-is t c =
+    rw c.in-Binary.ensures.is
+    (binary_walks _ _ _ _ _ _ _ (value_on_sheet _ _ _ c.in-Binary.ensures.parts.0.0 c.in_ok-lhs-in-Binary.ensures.is) (value_on_sheet _ _ _ c.in-Binary.ensures.parts.1.0 c.in_ok-rhs-in-Binary.ensures.is)
+    c.lower_binary.ensures.is)
+
+-- ITS VALUE
+pub lower_expr_value-returns-clause-is : goal.lower_expr_value-returns-clause-is
+unfolding walk_expr_value
+lower_expr_value-returns-clause-is t c =
+    rw c.ok_or.ensures.value (needed _ _ ∙ ap (λ (r : Lowering Walked). r >>= need_value) c.in_ok-lower_expr.ensures.is)
+
+-- A CALL
+pub lower_call-returns-in_err-callee-clause-is : goal.lower_call-returns-in_err-callee-clause-is
+lower_call-returns-in_err-callee-clause-is t c =
+    let p = err_from_is_err_and c.from_residual.result c.from_residual.ensures.1 in
+    rw (p.1, p.2) (not_called _ _ _ _ _ c.len.ensures c.in_err-callee.ensures)
+
+pub lower_call-returns-in-Context-clause-is : goal.lower_call-returns-in-Context-clause-is
+lower_call-returns-in-Context-clause-is t c = context_read _ _ _ _ c.args.ctx.now.log c.len.ensures c.in_ok-callee.callee c.new-values.result c.in_ok-callee.ensures c.in-Context.is c.finish_call.ensures.is
 
 pub lower_call-loop-arg-init : goal.lower_call-loop-arg-init
-lower_call-loop-arg-init t c =
-    call_starts _ _ _ _ _ _ _ _ _ (call_at c.requires.ready.0 c.requires.at_value) (ap (λ (x : ℕ). c.args.at + x) c.read.ensures.0) c.name_at.ensures c.count.ensures c.callee-callee.ensures c.first_argument-arg.ensures refl
+lower_call-loop-arg-init t c = record {
+  sheet = refl;
+  depth = refl;
+  left = call_starts _ _ c.args.name.0 _ c.args.ctx.now c.len.ensures c.requires c.in_ok-callee.ensures c.in_default.not-Context c.new-values.ensures;
+}
 
--- the argument at hand
-pub lower_call-overflow_sub-depth : goal.lower_call-overflow_sub-depth
-lower_call-overflow_sub-depth t c = (bounds c.requires.ready.0).deep
-
-pub lower_call-lower_expr_value-lowered-requires : goal.lower_call-lower_expr_value-lowered-requires
-lower_call-lower_expr_value-lowered-requires t c =
-    (omega (arith, (bounds c.requires.ready.0).deep, c.decreases), ((turn c.loop-arg.invariant c.loop-arg-test.true).more.ready, c.requires.ready.1))
-
-pub lower_call-offset_bounds-ids-n : goal.lower_call-offset_bounds-ids-n
-lower_call-offset_bounds-ids-n t c = omega (arith, (turn c.loop-arg.invariant c.loop-arg-test.true).room)
-
-pub lower_call-bounds-ids-n : goal.lower_call-bounds-ids-n
-lower_call-bounds-ids-n t c = omega (arith, (turn c.loop-arg.invariant c.loop-arg-test.true).room)
-
-pub lower_call-overflow_add-n : goal.lower_call-overflow_add-n
-lower_call-overflow_add-n t c = omega (arith, (turn c.loop-arg.invariant c.loop-arg-test.true).room)
-
-pub lower_call-read-arg-requires : goal.lower_call-read-arg-requires
-lower_call-read-arg-requires t c = size_fits (turn c.loop-arg.invariant c.loop-arg-test.true).more.ready
-
-pub lower_call-loop-arg-smaller : goal.lower_call-loop-arg-smaller
-lower_call-loop-arg-smaller t c =
-    let m = (turn c.loop-arg.invariant c.loop-arg-test.true).more in
-    omega (arith, m.low, m.high, c.read-arg.ensures.0, c.loop-arg-test.true)
+pub lower_call-returns-in_err-value : goal.lower_call-returns-in_err-value
+lower_call-returns-in_err-value t c =
+    let p = err_from_is_err_and c.from_residual-in_err-value.result c.from_residual-in_err-value.ensures.1 in
+    let f = c.in-Some.ensures in
+    let i = c.loop-arg.invariant in
+    record {
+      is = rw (p.1, p.2) (refuses i.left f.is (value_on_sheet _ _ _ (f.sheet ∙ i.sheet) c.in_err-value.ensures.is));
+      log_alone = then_alone c.args.ctx.now _ _ i.left.same c.in_err-value.ensures.log_alone;
+    }
 
 pub lower_call-loop-arg-preserved : goal.lower_call-loop-arg-preserved
 lower_call-loop-arg-preserved t c =
-    let w = c.lower_expr_value-lowered.ensures in
-    goes_on c.loop-arg.invariant c.loop-arg-test.true _ w.result_after w.valued_same c.in-Value.is c.read-arg.ensures.0
+    let f = c.in-Some.ensures in
+    let i = c.loop-arg.invariant in
+    record {
+      sheet = f.rest_sheet ∙ i.sheet;
+      depth = f.rest_depth ∙ i.depth;
+      left = rw c.push.ensures (goes_on i.left f.is (value_on_sheet _ _ _ (f.sheet ∙ i.sheet) c.in_ok-value.ensures.is) c.in_ok-value.ensures.log_alone);
+    }
 
--- one that is refused
-pub lower_call-returns-in-Refused-clause-result_after : goal.lower_call-returns-in-Refused-clause-result_after
-lower_call-returns-in-Refused-clause-result_after t c =
-    refuses c.loop-arg.invariant c.loop-arg-test.true _ c.lower_expr_value-lowered.ensures.result_after c.in-Refused.is
-
--- after the loop
-pub lower_call-finish_call-requires : goal.lower_call-finish_call-requires
-lower_call-finish_call-requires t c = omega (arith, c.loop-arg.invariant.few)
-
-pub lower_call-returns-clause-result_after : goal.lower_call-returns-clause-result_after
-lower_call-returns-clause-result_after t c = c.finish_call.ensures.result_after ∙ finishes c.loop-arg.invariant c.loop-arg-test.false
-
-pub lower_call-returns-clause-lowered_same : goal.lower_call-returns-clause-lowered_same
-lower_call-returns-clause-lowered_same t c = same_after c.args.ctx c.loop-arg.ctx c.loop-arg.invariant.same c.finish_call.result c.finish_call.ensures.lowered_same
-
--- AN EXPRESSION: an integer
-pub lower_expr-read-requires : goal.lower_expr-read-requires
-lower_expr-read-requires t c = (omega (arith, (int_at c.requires.0 (sym c.read-kind.ensures.0 ∙ c.in-30.is)).fits), omega arith)
-
-pub lower_expr-returns-in-30-clause-result_after : goal.lower_expr-returns-in-30-clause-result_after
-lower_expr-returns-in-30-clause-result_after t c =
-    int_walks c.requires.0 c.read-kind.ensures.0 _ _ c.in-30.is c.read.ensures.0 c.lower_int.ensures.result_after
-
--- a name
-pub lower_expr-name_at-requires : goal.lower_expr-name_at-requires
-lower_expr-name_at-requires t c =
-    let b = (ident_at c.requires.0 (sym c.read-kind.ensures.0 ∙ c.in-31.is)).fits in
-    let short = c.requires.1.0.short in
-    (omega (arith, b), omega (arith, b, short))
-
-pub lower_expr-returns-in-31-clause-result_after : goal.lower_expr-returns-in-31-clause-result_after
-lower_expr-returns-in-31-clause-result_after t c =
-    ident_walks c.requires.0 c.read-kind.ensures.0 _ _ c.in-31.is c.name_at.ensures c.lower_ident.ensures.result_after
-
--- a storage field
-pub lower_expr-name_at-requires-in-32 : goal.lower_expr-name_at-requires-in-32
-lower_expr-name_at-requires-in-32 t c =
-    let b = (storage_at c.requires.0 (sym c.read-kind.ensures.0 ∙ c.in-32.is)).fits in
-    let short = c.requires.1.0.short in
-    (omega (arith, b), omega (arith, b, short))
-
-pub lower_expr-returns-in-32-clause-result_after : goal.lower_expr-returns-in-32-clause-result_after
-lower_expr-returns-in-32-clause-result_after t c =
-    storage_walks c.requires.0 c.read-kind.ensures.0 _ _ c.in-32.is c.name_at-in-32.ensures c.lower_storage_read.ensures.result_after
-
--- what is refused
-pub lower_expr-returns-in-33-clause-result_after : goal.lower_expr-returns-in-33-clause-result_after
-lower_expr-returns-in-33-clause-result_after t c = mapping_walks c.requires.0 c.read-kind.ensures.0 _ _ c.in-33.is
-
-pub lower_expr-returns-in-35-clause-result_after : goal.lower_expr-returns-in-35-clause-result_after
-lower_expr-returns-in-35-clause-result_after t c = struct_walks c.requires.0 c.read-kind.ensures.0 _ _ c.in-35.is
-
--- a field of a value
-pub lower_expr-overflow_sub-depth : goal.lower_expr-overflow_sub-depth
-lower_expr-overflow_sub-depth t c = (bounds c.requires.0).deep
-
-pub lower_expr-lower_expr_value-base-requires : goal.lower_expr-lower_expr_value-base-requires
-lower_expr-lower_expr_value-base-requires t c =
-    (omega (arith, (bounds c.requires.0).deep, c.decreases), ((access_at c.requires.0 (sym c.read-kind.ensures.0 ∙ c.in-34.is)).value, c.requires.1))
-
-pub lower_expr-name_at-requires-in-34 : goal.lower_expr-name_at-requires-in-34
-lower_expr-name_at-requires-in-34 t c =
-    let b = (access_at c.requires.0 (sym c.read-kind.ensures.0 ∙ c.in-34.is)).fits in
-    let short = c.requires.1.0.short in
-    (omega (arith, b), omega (arith, b, short))
-
-pub lower_expr-returns-in-34-clause-result_after : goal.lower_expr-returns-in-34-clause-result_after
-lower_expr-returns-in-34-clause-result_after t c =
-    access_walks c.requires.0 c.read-kind.ensures.0 _ _ c.in-34.is c.name_at-in-34.ensures c.lower_expr_value-base.ensures.result_after c.lower_field.ensures.result_after
-
-pub lower_expr-returns-in-34-clause-lowered_same : goal.lower_expr-returns-in-34-clause-lowered_same
-lower_expr-returns-in-34-clause-lowered_same t c = c.lower_field.ensures.after_same c.args.ctx c.lower_expr_value-base.ensures.valued_same
-
--- an operator: its left operand
-pub lower_expr-overflow_sub-depth-in-36 : goal.lower_expr-overflow_sub-depth-in-36
-lower_expr-overflow_sub-depth-in-36 t c = (bounds c.requires.0).deep
-
-pub lower_expr-lower_expr_value-lhs-requires : goal.lower_expr-lower_expr_value-lhs-requires
-lower_expr-lower_expr_value-lhs-requires t c =
-    (omega (arith, (bounds c.requires.0).deep, c.decreases), ((binary_at c.requires.0 (sym c.read-kind.ensures.0 ∙ c.in-36.is)).first, c.requires.1))
-
-pub lower_expr-returns-in-Refused-clause-result_after : goal.lower_expr-returns-in-Refused-clause-result_after
-lower_expr-returns-in-Refused-clause-result_after t c =
-    binary_refused c.requires.0 c.read-kind.ensures.0 _ _ c.in-36.is (refused _ c.lower_expr_value-lhs.ensures.result_after c.in-Refused.is)
-
--- its right operand
-pub lower_expr-read-requires-in-Value : goal.lower_expr-read-requires-in-Value
-lower_expr-read-requires-in-Value t c = size_fits (binary_at c.requires.0 (sym c.read-kind.ensures.0 ∙ c.in-36.is)).first
-
-pub lower_expr-overflow_sub-depth-in-Value : goal.lower_expr-overflow_sub-depth-in-Value
-lower_expr-overflow_sub-depth-in-Value t c = (bounds c.requires.0).deep
-
-pub lower_expr-lower_expr_value-rhs-requires : goal.lower_expr-lower_expr_value-rhs-requires
-lower_expr-lower_expr_value-rhs-requires t c =
-    let o = binary_at c.requires.0 (sym c.read-kind.ensures.0 ∙ c.in-36.is) in
-    (omega (arith, (bounds c.requires.0).deep, c.decreases), (rw c.read-in-Value.ensures.0 o.second, c.requires.1))
-
--- the operator
-pub lower_expr-read-requires-in-Value-2 : goal.lower_expr-read-requires-in-Value-2
-lower_expr-read-requires-in-Value-2 t c = (omega (arith, (binary_at c.requires.0 (sym c.read-kind.ensures.0 ∙ c.in-36.is)).fits), omega arith)
-
-pub lower_expr-lower_binary-requires : goal.lower_expr-lower_binary-requires
-lower_expr-lower_binary-requires t c =
-    omega (arith, (binary_at c.requires.0 (sym c.read-kind.ensures.0 ∙ c.in-36.is)).operator, c.read-in-Value-2.ensures.0)
-
-pub lower_expr-returns-in-Value-clause-result_after : goal.lower_expr-returns-in-Value-clause-result_after
-lower_expr-returns-in-Value-clause-result_after t c =
-    binary_walks c.requires.0 c.read-kind.ensures.0 _ _ c.in-36.is c.read-in-Value-2.ensures.0 c.read-in-Value.ensures.0
-    (gave _ c.lower_expr_value-lhs.ensures.result_after c.in-Value.is) c.lower_expr_value-rhs.ensures.result_after c.lower_binary.ensures.result_after
-
-pub lower_expr-returns-in-Value-clause-lowered_same : goal.lower_expr-returns-in-Value-clause-lowered_same
-lower_expr-returns-in-Value-clause-lowered_same t c =
-    let d = c.in-Value.next in
-    same_after c.args.ctx d (gave_same c.args.ctx c.lower_expr_value-lhs.ensures.valued_same c.in-Value.is) c.lower_binary.result (c.lower_binary.ensures.after_same d c.lower_expr_value-rhs.ensures.valued_same)
-
--- a call
-pub lower_expr-lower_call-requires : goal.lower_expr-lower_call-requires
-lower_expr-lower_call-requires t c =
-    (omega (arith, c.decreases), (c.requires, call_kind c.requires.0 c.read-kind.ensures.0 (λ q. omega arith) (λ q. omega arith) (λ q. omega arith) (λ q. omega arith) (λ q. omega arith) (λ q. omega arith) (λ q. omega arith)))
-
--- AN EXPRESSION THAT MUST GIVE A VALUE
-pub lower_expr_value-lower_expr-lowered-requires : goal.lower_expr_value-lower_expr-lowered-requires
-lower_expr_value-lower_expr-lowered-requires t c = (omega (arith, c.decreases), c.requires)
-
-pub lower_expr_value-returns-in-Value-clause-result_after : goal.lower_expr_value-returns-in-Value-clause-result_after
-lower_expr_value-returns-in-Value-clause-result_after t c = rw c.copied.ensures (value_value _ _ _ _ _ c.lower_expr-lowered.ensures.result_after c.in-Value.is)
-
-pub lower_expr_value-returns-in-Void-clause-result_after : goal.lower_expr_value-returns-in-Void-clause-result_after
-lower_expr_value-returns-in-Void-clause-result_after t c = value_void _ _ _ _ _ c.lower_expr-lowered.ensures.result_after c.in-Void.is
-
-pub lower_expr_value-returns-in-Refused-clause-result_after : goal.lower_expr_value-returns-in-Refused-clause-result_after
-lower_expr_value-returns-in-Refused-clause-result_after t c = value_refused _ _ _ _ _ c.lower_expr-lowered.ensures.result_after c.in-Refused.is
+pub lower_call-returns : goal.lower_call-returns
+lower_call-returns t c =
+    let i = c.loop-arg.invariant in
+    record {
+      is = c.finish_call-2.ensures.is ∙ finishes i.left c.in_default-next.ensures;
+      log_alone = then_alone c.args.ctx.now _ _ i.left.same c.finish_call-2.ensures.log_alone;
+    }

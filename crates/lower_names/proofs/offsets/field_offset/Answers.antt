@@ -1,26 +1,29 @@
--- `lower_names::offsets::field_offset`: an arm for each type. Assumes nothing.
-use mathlib.Core.Path.{ap, sym, ◌∙◌}
-use Rattle.definitions.specs.ContractSheet.{read_contract}
-use Rattle.ir.specs.declared.IrType.{IrType}
-use Rattle.ir.specs.Types.{as_type}
-use Rattle.lower_names.specs.Answers.{field_offset}
+-- `lower_names::offsets::field_offset`: a struct, its declaration, the field's position. Assumes nothing.
+use mathlib.Core.Path.{sym, ◌∙◌}
+use Prim.Native.Nat.{ℕ}
+use Rattle.std.proofs.lemmas.Result.{err_from_is_err_and}
+use Rattle.contract_nodes.specs.Nodes.{contract_in, struct_in}
+use Rattle.lower_names.proofs.OffsetSteps.{or_refused, no_struct, unresolved, found}
 use Rattle.lower_names.proofs.offsets.field_offset.Goals as goal
 
-pub returns-in-Struct : goal.returns-in-Struct
-returns-in-Struct c = c.offset_in.ensures ∙ ap (λ (t : IrType). field_offset (read_contract c.args.s.now) (as_type t) c.args.field.0) (sym c.in-Struct.is)
+pub returns-in_default : goal.returns-in_default
+returns-in_default c = no_struct (contract_in c.args.contract) c.args.ty c.args.field.0 c.in_default.not-Struct
 
-pub returns-in-U64 : goal.returns-in-U64
-unfolding field_offset
-returns-in-U64 c = ap (λ (t : IrType). field_offset (read_contract c.args.s.now) (as_type t) c.args.field.0) (sym c.in-U64.is)
+pub returns-in_err-found : goal.returns-in_err-found
+returns-in_err-found c =
+    let p = err_from_is_err_and c.from_residual.result c.from_residual.ensures.1 in
+    let none = or_refused struct_in c.struct_named.result _ c.struct_named.ensures.is (sym c.in_err-found.was ∙ c.ok_or.ensures.value) in
+    rw (p.1, p.2, c.in-Struct.is) (unresolved (contract_in c.args.contract) c.in-Struct.of.0 c.args.field.0 none)
 
-pub returns-in-Bool : goal.returns-in-Bool
-unfolding field_offset
-returns-in-Bool c = ap (λ (t : IrType). field_offset (read_contract c.args.s.now) (as_type t) c.args.field.0) (sym c.in-Bool.is)
+pub returns-in_err-position : goal.returns-in_err-position
+returns-in_err-position c =
+    let p = err_from_is_err_and c.from_residual-in_err-position.result c.from_residual-in_err-position.ensures.1 in
+    let here = or_refused struct_in c.struct_named.result _ c.struct_named.ensures.is (sym c.in_ok-found.was ∙ c.ok_or.ensures.value) in
+    let none = or_refused (λ (i : ℕ). i) c.field_position.result _ c.field_position.ensures.is (sym c.in_err-position.was ∙ c.ok_or-2.ensures.value) in
+    rw (p.1, p.2, c.in-Struct.is) (found (contract_in c.args.contract) c.in-Struct.of.0 c.args.field.0 here none)
 
-pub returns-in-Field : goal.returns-in-Field
-unfolding field_offset
-returns-in-Field c = ap (λ (t : IrType). field_offset (read_contract c.args.s.now) (as_type t) c.args.field.0) (sym c.in-Field.is)
-
-pub returns-in-Void : goal.returns-in-Void
-unfolding field_offset
-returns-in-Void c = ap (λ (t : IrType). field_offset (read_contract c.args.s.now) (as_type t) c.args.field.0) (sym c.in-Void.is)
+pub returns : goal.returns
+returns c =
+    let here = or_refused struct_in c.struct_named.result _ c.struct_named.ensures.is (sym c.in_ok-found.was ∙ c.ok_or.ensures.value) in
+    let there = or_refused (λ (i : ℕ). i) c.field_position.result _ c.field_position.ensures.is (sym c.in_ok-position.was ∙ c.ok_or-2.ensures.value) in
+    rw c.in-Struct.is (found (contract_in c.args.contract) c.in-Struct.of.0 c.args.field.0 here there)

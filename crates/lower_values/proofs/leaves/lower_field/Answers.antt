@@ -1,16 +1,16 @@
--- `leaves::lower_field`: by what the expression came to. Assumes nothing.
-use mathlib.Core.Path.{ap, sym, ◌∙◌}
-use Rattle.lower_values.specs.Values.{valued_in, field_on}
-use Rattle.lower_values.proofs.Answered.{after_value}
+-- `leaves::lower_field`: by the offset. Assumes nothing.
+use mathlib.Core.Path.{refl, ap, ◌∙◌}
+use Rattle.std.proofs.lemmas.Result.{err_from_is_err_and}
+use Rattle.definitions.specs.Result.{ok}
+use Rattle.ir.specs.declared.IrType.TheVariants as type
+use Rattle.lower_walk.specs.Exprs.{Walked}
+use Rattle.lower_values.proofs.Answered.{pushed, by_offset}
 use Rattle.lower_values.proofs.leaves.lower_field.Goals as goal
 
-pub returns-in-Value : goal.returns-in-Value
-unfolding field_on
-returns-in-Value c =
-    let a = c.args in
-    let is = c.in-Value.is in
-    record { result_after = c.read_field.ensures.result_after ∙ sym (ap (field_on _ _) (ap (valued_in a.log.now) is)); after_same = after_value c.read_field.result is c.read_field.ensures.lowered_same }
+pub returns-in_err-offset-clause-is : goal.returns-in_err-offset-clause-is
+returns-in_err-offset-clause-is c =
+    let p = err_from_is_err_and c.from_residual.result c.from_residual.ensures.1 in
+    rw (p.1, p.2) (by_offset _ _ _ _ _ c.in_err-offset.ensures)
 
-pub returns-in-Refused : goal.returns-in-Refused
-unfolding field_on
-returns-in-Refused c = record { result_after = sym (ap (field_on _ _) (ap (valued_in c.args.log.now) c.in-Refused.is)); after_same = λ d h. tt }
+pub returns-clause-is : goal.returns-clause-is
+returns-clause-is c = ap (λ (x : Walked). ok x) (pushed type.U64 c.emit_load.ensures refl) ∙ by_offset _ _ _ _ _ c.in_ok-offset.ensures

@@ -1,13 +1,20 @@
 -- `leaves::lower_ident`: by what is held. Assumes nothing.
-use mathlib.Core.Path.{ap, sym, ◌∙◌}
-use Rattle.lower_names.specs.Answers.{lookup_of}
-use Rattle.lower_values.proofs.Answered.{pushes, held, not_held}
+use mathlib.Core.Path.{refl, ap, sym, ◌∙◌}
+use Rattle.std.proofs.lemmas.Result.{err_from_is_err_and}
+use Rattle.definitions.specs.Result.{ok}
+use Rattle.ir.specs.Answers.{option_of}
+use Rattle.lower_walk.specs.Exprs.{Walked}
+use Rattle.lower_names.specs.Entries.{local_of}
+use Rattle.lower_values.proofs.Answered.{pushed, refused, held, not_held}
 use Rattle.lower_values.proofs.leaves.lower_ident.Goals as goal
 
-pub returns-in-Local : goal.returns-in-Local
-returns-in-Local c =
-    let f = c.find in
-    let r = pushes c.emit_read_local.ensures c.value_of.ensures (held _ _ _ (sym f.ensures ∙ ap lookup_of c.in-Local.is)) in record { result_after = r.0; lowered_same = r.1 }
+pub returns-in_err-local-clause-is : goal.returns-in_err-local-clause-is
+returns-in_err-local-clause-is c =
+    let p = err_from_is_err_and c.from_residual.result c.from_residual.ensures.1 in
+    let f = c.in_err-local.ensures in
+    rw (p.1, p.2)
+    (refused _ f.ok_part f.value (not_held _ _ _ (sym c.lookup.ensures ∙ ap (option_of local_of) f.ok_part)))
 
-pub returns-in-NotHeld : goal.returns-in-NotHeld
-returns-in-NotHeld c = record { result_after = sym (not_held _ _ _ (sym c.find.ensures ∙ ap lookup_of c.in-NotHeld.is)); lowered_same = tt }
+pub returns-clause-is : goal.returns-clause-is
+returns-clause-is c =
+    ap (λ (x : Walked). ok x) (pushed c.in_ok-local.ty c.emit_read_local.ensures refl) ∙ sym (held _ _ _ (sym c.lookup.ensures ∙ ap (option_of local_of) c.in_ok-local.ensures.ok_part))

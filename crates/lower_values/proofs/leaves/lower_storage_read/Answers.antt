@@ -1,13 +1,20 @@
 -- `leaves::lower_storage_read`: by the slot. Assumes nothing.
-use mathlib.Core.Path.{ap, sym, ◌∙◌}
+use mathlib.Core.Path.{refl, ap, sym, ◌∙◌}
+use Rattle.std.proofs.lemmas.Result.{err_from_is_err_and}
+use Rattle.definitions.specs.Result.{ok}
 use Rattle.ir.specs.Answers.{option_of}
-use Rattle.lower_values.proofs.Answered.{pushes, at_slot, by_slot}
+use Rattle.ir.specs.declared.IrType.TheVariants as type
+use Rattle.lower_walk.specs.Exprs.{Walked}
+use Rattle.lower_values.proofs.Answered.{pushed, refused, stored, not_stored}
 use Rattle.lower_values.proofs.leaves.lower_storage_read.Goals as goal
 
-pub returns-in-Some : goal.returns-in-Some
-returns-in-Some c =
-    let f = c.storage_slot in
-    let r = pushes c.emit_state_read.ensures c.value_of.ensures (by_slot _ _ _ ∙ ap (at_slot _ _) (sym f.ensures ∙ ap (option_of (λ i. i)) c.in-Some.is)) in record { result_after = r.0; lowered_same = r.1 }
+pub returns-in_err-slot-clause-is : goal.returns-in_err-slot-clause-is
+returns-in_err-slot-clause-is c =
+    let p = err_from_is_err_and c.from_residual.result c.from_residual.ensures.1 in
+    let f = c.in_err-slot.ensures in
+    rw (p.1, p.2)
+    (refused _ f.ok_part f.value (not_stored _ _ _ (sym c.storage_slot.ensures ∙ ap (option_of (λ i. i)) f.ok_part)))
 
-pub returns-in-None : goal.returns-in-None
-returns-in-None c = record { result_after = sym (by_slot _ _ _ ∙ ap (at_slot _ _) (sym c.storage_slot.ensures ∙ ap (option_of (λ i. i)) c.in-None.is)); lowered_same = tt }
+pub returns-clause-is : goal.returns-clause-is
+returns-clause-is c =
+    ap (λ (x : Walked). ok x) (pushed type.U64 c.emit_state_read.ensures refl) ∙ sym (stored _ _ _ (sym c.storage_slot.ensures ∙ ap (option_of (λ i. i)) c.in_ok-slot.ensures.ok_part))

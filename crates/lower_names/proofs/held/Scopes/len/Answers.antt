@@ -1,0 +1,6 @@
+-- `lower_names::held::Scopes::len`. Assumes nothing.
+use Rattle.lower_names.proofs.HeldList.{count_is}
+use Rattle.lower_names.proofs.held.Scopes.len.Goals as goal
+
+pub returns : goal.returns
+returns c = count_is c.self.inside.entries c.self.inside.count c.self.inside.scope c.self.view_is

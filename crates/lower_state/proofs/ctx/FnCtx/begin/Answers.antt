@@ -1,0 +1,9 @@
+-- `FnCtx::begin`: the first block starts where the log does. Assumes nothing.
+use mathlib.Core.Path.{refl}
+use Rattle.lower_walk.specs.Layout.{new_ctx}
+use Rattle.lower_state.proofs.Spans.{started_starts, started_stops}
+use Rattle.lower_state.proofs.ctx.FnCtx.begin.Goals as goal
+
+pub returns-clause-is : goal.returns-clause-is
+unfolding new_ctx
+returns-clause-is c = let s = c.self.inside.spans in rw (← c.self.view_is, started_starts s 0 0, started_stops s 0 0) refl

@@ -1,0 +1,234 @@
+// A function under way.
+ghost use Rattle.std.specs.Prelude.{◌≡◌};
+ghost use Rattle.lower_walk.specs.Log.{capped};
+
+use crate::records::{put_ids, put_record};
+use crate::{LOST, Log, LoweringError, MOST_BLOCKS, MOST_LOCALS, Part};
+use format::MOST;
+use ir::{BlockId, FunctionId, IrType, LocalId, ValueId};
+use lower_counters::Counters;
+use std::marker::Model;
+
+// Where the records of a block start and stop in the log.
+#[derive(Clone, Copy, Debug)]
+struct Span {
+    start: u32,
+    stop: u32,
+}
+
+// The three blocks of an If (then, else, merge), a While or a For (header, body, exit).
+#[derive(Clone, Copy, Debug)]
+pub struct Blocks {
+    pub first: BlockId,
+    pub second: BlockId,
+    pub third: BlockId,
+}
+
+// A function under way (`FnCtx`): its id, the next value, block and local, the current block and whether that has its terminator, the
+// place behind the log's last record, which is `LOST` once a record did not fit, the log, the types of the locals, and where each
+// block's records stand.
+#[derive(Drop)]
+pub struct FnCtx {
+    function: FunctionId,
+    counters: Counters,
+    current: BlockId,
+    ended: bool,
+    to: usize,
+    log: Log,
+    locals: [IrType; MOST_LOCALS],
+    spans: [Span; MOST_BLOCKS],
+}
+
+// A clause sees the state of the walk.
+impl Model for FnCtx {
+    ghost use Rattle.lower_walk.specs.Stmts.{LogCtx};
+
+    ghost Value = { LogCtx };
+
+    ghost use Rattle.lower_state.specs.State.{ctx_in, Sound};
+
+    ghost view = { ctx_in };
+
+    ghost invariant = { Sound };
+}
+
+// A place of the log as a number of a span: one stands for all that are over the room.
+fn place_of(to: usize) -> u32
+    ensures { result ≡ capped to }
+{
+    if MOST < to {
+        return LOST as u32;
+    }
+    to as u32
+}
+
+impl FnCtx {
+    ghost use Rattle.std.specs.Prelude.{ℕ, suc, ◌+◌, ◌*◌, ◌%◌, ◌≤◌, ◌<◌, ◌++◌, map, length, leb, get_or, replicate, IfErr};
+    ghost use Rattle.definitions.specs.Ir as defs;
+    ghost use Rattle.ir.specs.Types.{as_type};
+    ghost use Rattle.lower_walk.specs.Log.{append, counted};
+    ghost use Rattle.lower_walk.specs.Stmts.{with_log, switch_to, three_blocks};
+    ghost use Rattle.lower_walk.specs.Layout.{new_ctx, slice};
+    ghost use Rattle.lower_state.specs.Answers.{after};
+    ghost use Rattle.lower_state.specs.Bytes.{record_bytes, list_bytes, ids_of};
+    ghost use Rattle.lower_state.specs.State.{blocks_of, closed, new_local};
+
+    pub fn new(function: FunctionId) -> FnCtx
+        ensures { result ≡ new_ctx function.0 (replicate 256 0) (replicate 256 0) }
+    {
+        FnCtx {
+            function,
+            counters: Counters {
+                value: 0,
+                block: 1,
+                local: 0,
+            },
+            current: BlockId(0),
+            ended: false,
+            to: 0,
+            log: [0; MOST],
+            locals: [IrType::U64; MOST_LOCALS],
+            spans: [Span { start: 0, stop: 0 }; MOST_BLOCKS],
+        }
+    }
+
+    // The same for another function, in the same memory: the first block is the current one, and nothing is in the log.
+    pub fn begin(&mut self, function: FunctionId)
+        ensures is { self.new ≡ new_ctx function.0 self.old.starts self.old.stops }
+        ensures sizes { (length self.old.starts ≡ 256) × (length self.old.stops ≡ 256) }
+    {
+        self.function = function;
+        self.counters = Counters {
+            value: 0,
+            block: 1,
+            local: 0,
+        };
+        self.current = BlockId(0);
+        self.ended = false;
+        self.to = 0;
+        self.spans[0].start = 0;
+    }
+
+    pub fn next_value(&mut self) -> ValueId
+        ensures number { result.0 ≡ self.old.log.value }
+        ensures counted { self.new ≡ with_log (counted (suc self.old.log.value % 65536) self.old.log) self.old }
+    {
+        self.counters.next_value()
+    }
+
+    // Three blocks, or none if one of them would be the 257th.
+    pub fn three_blocks(&mut self) -> Result<Blocks, LoweringError>
+        ensures is { after blocks_of self.new result ≡ three_blocks self.old }
+        ensures refused { IfErr result (λ e. self.new ≡ self.old) }
+    {
+        if MOST_BLOCKS - 3 < self.counters.block as usize {
+            return Err(LoweringError::TooManyBlocksOrLocals(self.function));
+        }
+        let first = self.counters.next_block();
+        let second = self.counters.next_block();
+        let third = self.counters.next_block();
+        Ok(Blocks {
+            first,
+            second,
+            third,
+        })
+    }
+
+    // A local, unless it would be the 257th.
+    pub fn new_local(&mut self, ty: IrType) -> Result<LocalId, LoweringError>
+        ensures is { after (λ l. l.0) self.new result ≡ new_local (as_type ty) self.old }
+        ensures refused { IfErr result (λ e. self.new ≡ self.old) }
+    {
+        if MOST_LOCALS <= self.counters.local as usize {
+            return Err(LoweringError::TooManyBlocksOrLocals(self.function));
+        }
+        let local = self.counters.next_local();
+        self.locals[local.0 as usize] = ty;
+        Ok(local)
+    }
+
+    // A record behind the last one.
+    pub fn append(&mut self, kind: u16, first: u16, a: Part, b: Part, c: Part)
+        requires { (a.0 ≤ 8) × ((b.0 ≤ 8) × (c.0 ≤ 8)) }
+        ensures { self.new ≡ with_log (append (record_bytes kind first a b c 0) self.old.log) self.old }
+    {
+        self.to = put_record(&mut self.log, self.to, kind, first, a, b, c, 0);
+    }
+
+    // A record that ends in ids.
+    pub fn append_list(&mut self, kind: u16, first: u16, a: Part, b: Part, ids: &[ValueId])
+        requires { (a.0 ≤ 8) × ((b.0 ≤ 8) × (length ids.now ≤ 16)) }
+        ensures { self.new ≡ with_log (append (list_bytes kind first a b (ids_of ids.now)) self.old.log) self.old }
+    {
+        let more = 2 * ids.len();
+        let to = put_record(
+            &mut self.log,
+            self.to,
+            kind,
+            first,
+            a,
+            b,
+            Part::NOTHING,
+            more,
+        );
+        self.to = put_ids(&mut self.log, to, ids);
+    }
+
+    // Whether the current block has its terminator.
+    pub fn is_ended(&self) -> bool
+        ensures { result ≡ self.now.ended }
+    {
+        self.ended
+    }
+
+    // The current block's records, its terminator the last of them, stop at the log's place.
+    pub fn close(&mut self)
+        ensures { self.new ≡ closed self.old }
+    {
+        let block = self.current.0 as usize;
+        self.spans[block].stop = place_of(self.to);
+        self.ended = true;
+    }
+
+    pub fn switch_to(&mut self, block: BlockId)
+        requires { block.0 < self.old.next_block }
+        ensures { self.new ≡ switch_to block.0 self.old }
+    {
+        self.spans[block.0 as usize].start = place_of(self.to);
+        self.current = block;
+        self.ended = false;
+    }
+
+    // Whether the log holds all records.
+    pub fn is_whole(&self) -> bool
+        ensures { result ≡ leb self.now.log.at 32768 }
+    {
+        self.to <= MOST
+    }
+
+    // How many blocks there are.
+    pub fn blocks(&self) -> u16
+        ensures count { result ≡ self.now.next_block }
+        ensures most { result ≤ 256 }
+    {
+        self.counters.block
+    }
+
+    // The types of the locals.
+    pub fn locals(&self) -> &[IrType]
+        ensures is { map as_type result.now ≡ self.now.locals }
+        ensures most { length result.now ≤ 256 }
+    {
+        &self.locals[..self.counters.local as usize]
+    }
+
+    // The records of a block.
+    pub fn records(&self, block: BlockId) -> &[u8]
+        requires among { block.0 < self.now.next_block }
+        requires within { (get_or self.now.starts block.0 0 ≤ get_or self.now.stops block.0 0) × ((get_or self.now.stops block.0 0 ≤ self.now.log.at) × (self.now.log.at ≤ 32768)) }
+        ensures { result.now ≡ slice self.now.log.bytes (get_or self.now.starts block.0 0) (get_or self.now.stops block.0 0) }
+    {
+        let span = self.spans[block.0 as usize];
+        &self.log[span.start as usize..span.stop as usize]
+    }
+}

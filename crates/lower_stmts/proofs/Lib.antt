@@ -1,2 +1,0 @@
-pub mod StmtSteps
-pub mod Ways

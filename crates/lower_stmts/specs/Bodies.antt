@@ -1,0 +1,29 @@
+-- What lowering arms and bodies does, in the words of the walk. Assumes nothing: these are definitions.
+use Rattle.std.specs.Prelude.{ℕ, suc, ◌≡◌, ◌++◌}
+use Rattle.definitions.specs.Ast as ast
+use Rattle.definitions.specs.Ast.{Contract}
+use Rattle.definitions.specs.Result.{ok, ◌>>=◌}
+use Rattle.definitions.specs.Lower.{Lowering}
+use Rattle.contract_nodes.specs.declared.expr.Expr.{Expr}
+use Rattle.contract_nodes.specs.declared.stmt.Stmts.{Stmts}
+use Rattle.lower_walk.specs.Held.{Held}
+use Rattle.lower_walk.specs.Stmts.{LogCtx, enter_if, walk_stmts, next_arm}
+use Rattle.lower_names.specs.HeldNames.{HeldNames}
+
+-- an expression and statements of one sheet
+abbrev pub OneSheet : Expr → Stmts → Type 0
+OneSheet e b = b.contract.sheet.now ≡ e.contract.sheet.now
+
+-- an If whose second arm may have no statements, as `walk_stmt` has it
+unfoldable pub if_on : Contract → (scope : ℕ) → Held → ast.Expr → (a b : ast.Stmts) → LogCtx → Lowering LogCtx
+if_on K n es cond a b c = do
+  (c, k) ← enter_if K es cond c
+  c ← walk_stmts K (suc n) es a c
+  c ← walk_stmts K (suc n) es b (next_arm k.third k.second c)
+  ok (next_arm k.third k.third c)
+
+-- names may have been added to the innermost scope, and none is gone
+pub record Extends (before after : HeldNames) : Type 0 where
+  pub added : Held
+  pub held : after.held ≡ added ++ before.held
+  pub scope : after.scope ≡ before.scope
