@@ -81,6 +81,7 @@ first_function h s a fi st ns na =
     let F = function_here_lem h in
     record {
       is = rw (s, a, fi, st, ns, na) F.read;
+      at = a;
       sheet = s;
       rest_sheet = ns;
       less = omega (arith, F.low, low F.blocks, na);

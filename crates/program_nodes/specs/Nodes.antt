@@ -159,6 +159,7 @@ pub record RecordsOf (b : Block) (w : Records) : Type 0 where
 -- THE FIRST OF A LIST is taken: a function
 pub record FirstFunction (old new : Functions) (f : Function) : Type 0 where
   pub is : functions_in old ≡ ir_of f ∷ functions_in new
+  pub at : f.at ≡ old.at
   pub sheet : f.program.sheet.now ≡ old.program.sheet.now
   pub rest_sheet : new.program.sheet.now ≡ old.program.sheet.now
   pub less : old.at < new.at
