@@ -9,7 +9,7 @@ use Rattle.program_nodes.proofs.Takes.{first_block, no_block}
 use Rattle.program_nodes.proofs.block.Blocks.next.Goals as goal
 
 pub returns-then-self-at : goal.returns-then-self-at
-returns-then-self-at c = let w = c.args.self.now in no_block w (omega (arith, low (kept w.here.0), c.if-self-at.true))
+returns-then-self-at c = let w = c.args.self.now in let e = no_block w (omega (arith, low (kept w.here.0), c.if-self-at.true)) in (e.0, e.1, refl)
 
 pub read-requires : goal.read-requires
 read-requires c = let w = c.args.self.now in let B = block_here_lem (kept w.here.0) c.if-self-at.false in (omega (arith, B.low, B.high, w.here.1), omega arith)

@@ -10,7 +10,7 @@ use Rattle.program_nodes.proofs.Takes.{first_instr, first_term, no_record}
 use Rattle.program_nodes.proofs.block.Records.next.Goals as goal
 
 pub returns-then-self-at : goal.returns-then-self-at
-returns-then-self-at c = let w = c.args.self.now in no_record w (omega (arith, low (kept w.here.0), c.if-self-at.true))
+returns-then-self-at c = let w = c.args.self.now in (no_record w (omega (arith, low (kept w.here.0), c.if-self-at.true)), refl)
 
 pub read-requires : goal.read-requires
 read-requires c = let w = c.args.self.now in (omega (arith, record_fits (kept w.here.0) c.if-self-at.false, w.here.1), omega arith)

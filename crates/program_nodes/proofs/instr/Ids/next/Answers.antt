@@ -1,11 +1,11 @@
 -- `program_nodes::instr::Ids::next`: the first is read, and one less is left. Assumes nothing.
-use mathlib.Core.Path.{◌≡◌}
+use mathlib.Core.Path.{refl}
 use native.Mathlib.Omega.{arith}
 use Rattle.program_nodes.proofs.Takes.{no_id, ids_front}
 use Rattle.program_nodes.proofs.instr.Ids.next.Goals as goal
 
 pub returns-then-self-eq0 : goal.returns-then-self-eq0
-returns-then-self-eq0 c = no_id _ _ c.if-self-eq0.true
+returns-then-self-eq0 c = (no_id _ _ c.if-self-eq0.true, refl)
 
 pub returns : goal.returns
 returns c = record { is = rw c.read_u16.ensures (ids_front _ _ _ c.if-self-eq0.false); less = omega (arith, c.if-self-eq0.false) }

@@ -9,7 +9,7 @@ use Rattle.program_nodes.proofs.Takes.{within, function_there, first_function}
 use Rattle.program_nodes.proofs.program.Functions.next.Goals as goal
 
 pub returns-then-len-at : goal.returns-then-len-at
-returns-then-len-at c = no_functions (kept c.args.self.now.here) (λ h k. omega (arith, h, c.len.ensures, c.if-len-at.true))
+returns-then-len-at c = (no_functions (kept c.args.self.now.here) (λ h k. omega (arith, h, c.len.ensures, c.if-len-at.true)), refl)
 
 pub overflow_add-at : goal.overflow_add-at
 overflow_add-at c = omega (arith, head_there (kept c.args.self.now.here) (within c.len.ensures c.if-len-at.false), c.len.ensures, c.len.type_inv)
@@ -18,7 +18,7 @@ pub read_u16-requires : goal.read_u16-requires
 read_u16-requires c = omega (arith, head_there (kept c.args.self.now.here) (within c.len.ensures c.if-len-at.false))
 
 pub returns-then-read_u16-from : goal.returns-then-read_u16-from
-returns-then-read_u16-from c = no_functions (kept c.args.self.now.here) (λ h k. c.if-read_u16-from.true (c.read_u16.ensures ∙ (k ∙ sym c.from.ensures)))
+returns-then-read_u16-from c = (no_functions (kept c.args.self.now.here) (λ h k. c.if-read_u16-from.true (c.read_u16.ensures ∙ (k ∙ sym c.from.ensures))), refl)
 
 pub locals_at-locals-requires : goal.locals_at-locals-requires
 locals_at-locals-requires c = omega (arith, function_fits (function_there c.args.self.now (within c.len.ensures c.if-len-at.false) c.read_u16.ensures c.if-read_u16-from.false c.from.ensures))
