@@ -231,13 +231,17 @@ impl<'a> Instr<'a> {
     }
 }
 
-impl Ids<'_> {
+impl Iterator for Ids<'_> {
+    type Item = ValueId;
+
+    ghost use Rattle.std.specs.Iterator.{at_most};
     ghost use Rattle.program_nodes.specs.Nodes.{TakesId};
 
-    // Takes the first of them.
-    pub fn next(&mut self) -> Option<ValueId>
-        ensures { TakesId self.old self.new result }
-    {
+    ghost next_gives = { λ old v new. TakesId old new v };
+
+    ghost remaining = { λ left. at_most left.left };
+
+    fn next(&mut self) -> Option<ValueId> {
         if self.left == 0 {
             return None;
         }
