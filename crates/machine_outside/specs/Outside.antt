@@ -10,7 +10,7 @@ use Rattle.format.specs.declared.program.ContextKind.{ContextKind}
 use Rattle.format.specs.declared.program.ContextKind.TheVariants as kind
 use Rattle.ir.specs.Answers.{result_of}
 use Rattle.program_nodes.specs.declared.block.Records.{Records}
-use Rattle.machine_state.specs.Running.{Running, Gone, halt_of, at}
+use Rattle.machine_state.specs.Running.{Running, Gone, DoesOutside, halt_of, at}
 use Rattle.machine_state.specs.declared.frame.Frame.{Frame}
 use Rattle.machine_state.specs.declared.halt.Halt.{Halt}
 use Rattle.machine_outside.specs.declared.lent.Outside.{Outside}
@@ -39,6 +39,10 @@ pub record Takes (t : Frame) (before after outside rest : List ℕ) (o : maths.O
 pub record Uses (old new : Outside) (r : Result (Unit {0}) Halt) : Type 0 where
   pub words : new.words.now ≡ old.words.now
   pub kept : (h : Halt) → r ≡ Err h → new ≡ old
+
+-- an instruction that takes one of them
+abbrev pub DoesTaking : Frame → (before after : List ℕ) → (old new : Outside) → maths.Option ℕ → Instruction → Result (Unit {0}) Halt → Type 0
+DoesTaking t before after old new o i r = DoesOutside t before after (left old) (left new) o i r
 
 -- STATE WORDS: the answer is the machine's
 pub record ReadsState (state : List ℕ) (slot : ℕ) (r : Result ℕ Halt) : Type 0 where

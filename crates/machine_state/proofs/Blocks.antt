@@ -22,7 +22,7 @@ use Rattle.machine_slots.specs.Slots.{block_results, blocks_results, param_id, v
 use Rattle.machine_slots.proofs.Indices.{index_high, in_front, behind}
 use Rattle.machine_state.specs.Owned.{write_below, blocks_below}
 use Rattle.machine_state.specs.Frames.{function_in}
-use Rattle.machine_state.specs.Running.{sheet_of, BlockLeft, Gone, Goes}
+use Rattle.machine_state.specs.Running.{frame_sheet, BlockLeft, Gone, Goes}
 use Rattle.machine_state.specs.declared.frame.Frame.{Frame}
 use Rattle.machine_state.specs.declared.under_way.UnderWay.{UnderWay}
 use Rattle.machine_state.specs.declared.halt.Halt.{Halt}
@@ -66,7 +66,7 @@ found_own n k (x ∷ xs) b e w =
     (λ q. found_own n k xs b (rw (q, find) at e) p.1)
 
 -- what is left of a block that was found, and has not begun
-pub block_left_lem : {t : Frame} (k : ℕ) (b : Block) (r : Records) → find k (function_in t).blocks ≡ some (block_in b) → b.sheet.now ≡ sheet_of t → RecordsOf b r → BlockLeft t r (block_in b)
+pub block_left_lem : {t : Frame} (k : ℕ) (b : Block) (r : Records) → find k (function_in t).blocks ≡ some (block_in b) → b.sheet.now ≡ frame_sheet t → RecordsOf b r → BlockLeft t r (block_in b)
 unfolding value_ids
 block_left_lem {t} k b r e s R = record {
   instrs = sym R.instrs;
@@ -90,7 +90,7 @@ module _ {t : UnderWay} (k : ℕ) where
     kept = λ h e. refl;
   }
 
-  pub somewhere : (b : Block) (r : Records) → find k (function_in t.frame).blocks ≡ some (block_in b) → b.sheet.now ≡ sheet_of t.frame → RecordsOf b r
+  pub somewhere : (b : Block) (r : Records) → find k (function_in t.frame).blocks ≡ some (block_in b) → b.sheet.now ≡ frame_sheet t.frame → RecordsOf b r
       → Goes t (record { frame = t.frame; block = code.Some r; depth = t.depth }) (Ok tt) (λ (m : Machine ℕ). go_to m k)
   unfolding go_to
   somewhere b r z s W = record {

@@ -18,14 +18,14 @@ use Rattle.machine_state.specs.declared.halt.Halt.{Halt}
 use Rattle.machine_state.specs.declared.halt.Halt.TheVariants as halts
 
 -- the sheet of the function in a frame
-abbrev pub sheet_of : Frame → List ℕ
-sheet_of t = t.ids.function.program.sheet.now
+abbrev pub frame_sheet : Frame → List ℕ
+frame_sheet t = t.ids.function.program.sheet.now
 
 -- what is left of a block of the function in the frame t
 pub record BlockLeft (t : Frame) (r : Records) (b : BasicBlock) : Type 0 where
   pub instrs : b.instrs ≡ instrs_in r
   pub terminator : b.terminator ≡ terminator_in r
-  pub sheet : r.sheet.now ≡ sheet_of t
+  pub sheet : r.sheet.now ≡ frame_sheet t
   pub among : (v : ℕ) → Among v (block_results (instrs_in r)) → Among v (ids_in t)
   pub own : write_below (length (function_in t).locals) (instrs_in r) ≡ true
 
@@ -57,7 +57,7 @@ waiting_numbers t block id = t.ids.function.at ∷ place_in block ∷ end_in blo
 
 pub record Waits (sheet memory frames : List ℕ) (p base : ℕ) (w : Waiting ℕ) : Type 0 where
   pub frame : Frame
-  pub same_sheet : sheet_of frame ≡ sheet
+  pub same_sheet : frame_sheet frame ≡ sheet
   pub block : Option Records
   pub id : ℕ
   pub numbers : (i : ℕ) → i < 8 → get_or frames (p + i) 0 ≡ get_or (waiting_numbers frame block id) i 0
@@ -75,7 +75,7 @@ pub data Callers (sheet memory frames : List ℕ) : ℕ → ℕ → List (Waitin
 -- `outside` are the outside results that are left
 pub record Running (memory frames state outside : List ℕ) (t : UnderWay) (m : Machine ℕ) : Type 0 where
   pub top : StandsFor memory t.frame t.block m.top
-  pub callers : Callers (sheet_of t.frame) memory frames t.depth t.frame.base m.callers
+  pub callers : Callers (frame_sheet t.frame) memory frames t.depth t.frame.base m.callers
   pub state_is : m.state ≡ state
   pub outside_is : m.outside ≡ outside
   pub shallow : t.depth ≤ 15

@@ -2,7 +2,7 @@
 use mathlib.Core.Path.{◌≡◌, refl, ap, sym}
 use mathlib.Core.Bool.{true}
 use mathlib.Core.Option.{Option, some}
-use Prim.Native.Nat.{ℕ, ◌+◌, ◌≤◌}
+use Prim.Native.Nat.{◌+◌, ◌≤◌}
 use native.Mathlib.Omega.{arith}
 use lib.ListN.{length}
 use borrow.Author.Tests.{leb-true}
@@ -30,7 +30,7 @@ use Rattle.program_nodes.specs.declared.instr.Instr.{Instr}
 use Rattle.program_nodes.specs.declared.term.Term.{Term}
 use Rattle.program_nodes.proofs.Stand.{kept}
 use Rattle.program_nodes.proofs.KindNumbers.{IsBinary, binary_size}
-use Rattle.program_nodes.proofs.Walk.{head_fits, instr_alone, term_alone}
+use Rattle.program_nodes.proofs.Walk.{instr_alone, term_alone}
 use Rattle.program_nodes.proofs.FunctionSteps.{ProgramAt, program_at, function_here_is}
 
 pub program_is : (p : Program) → ProgramAt p.sheet.now

@@ -17,7 +17,7 @@ use Rattle.sheet.specs.declared.errors.Malformed.{Malformed}
 use Rattle.program_nodes.specs.Offsets.{first_param_at, records_at, fields_at}
 use Rattle.program_nodes.specs.Positions as places
 use Rattle.program_nodes.specs.Positions.{type_here, ids_here, instr_here, term_here, instrs_here, terminator_here, block_here, blocks_here, functions_here, function_here}
-use Rattle.program_nodes.specs.Definitions.{Definition, param_definition, param_definitions, instr_definition, result_definition, block_definitions, blocks_definitions}
+use Rattle.program_nodes.specs.Definitions.{Definition, param_definition, param_definitions, result_definition, block_definitions, blocks_definitions}
 use Rattle.program_nodes.specs.declared.program.Program.{Program}
 use Rattle.program_nodes.specs.declared.program.Functions.{Functions}
 use Rattle.program_nodes.specs.declared.program.Function.{Function}

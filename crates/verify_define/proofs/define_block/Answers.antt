@@ -1,5 +1,4 @@
 -- `verify_define::define_block`: the first instruction, or it is over. Assumes nothing.
-use mathlib.Core.Path.{sym}
 use Rattle.definitions.specs.Verify.{define_results}
 use Rattle.program_nodes.specs.Nodes.{node_in}
 use Rattle.verify_state.proofs.Steps.{handed_on}

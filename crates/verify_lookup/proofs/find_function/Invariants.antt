@@ -1,6 +1,5 @@
 -- `verify_lookup::find_function`: what is left of the functions is searched. Assumes nothing.
 use mathlib.Core.Path.{◌≡◌}
-use lib.ListN.{length}
 use Rattle.definitions.specs.Bench.{function_with}
 use Rattle.program_nodes.specs.Nodes.{functions_of, functions_in}
 use Rattle.verify_lookup.proofs.find_function.Given as goal

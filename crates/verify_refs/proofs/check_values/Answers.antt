@@ -1,5 +1,4 @@
 -- `verify_refs::check_values`: the first is not defined, or the rest decides. Assumes nothing.
-use Rattle.program_nodes.specs.Nodes.{ids_in}
 use Rattle.verify_state.proofs.Steps.{handed_on}
 use Rattle.verify_refs.proofs.Values.{all_left, values_failed, values_passed, values_over}
 use Rattle.verify_refs.proofs.check_values.Goals as goal

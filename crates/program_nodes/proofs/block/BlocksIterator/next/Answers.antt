@@ -1,5 +1,5 @@
 -- `program_nodes::block::BlocksIterator::next`: a block stands there, or none is left. Assumes nothing.
-use mathlib.Core.Path.{◌≡◌, refl, ap}
+use mathlib.Core.Path.{refl, ap}
 use Prim.Native.Nat.{ℕ, ◌+◌}
 use native.Mathlib.Omega.{arith}
 use Rattle.definitions.proofs.Sheets.Steps.{low}

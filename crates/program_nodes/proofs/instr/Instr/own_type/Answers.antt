@@ -1,9 +1,8 @@
 -- `program_nodes::instr::Instr::own_type`: at the offset of its kind. Assumes nothing.
-use mathlib.Core.Path.{◌≡◌, ap, ◌∙◌}
-use Prim.Native.Nat.{ℕ, ◌+◌}
+use mathlib.Core.Path.{◌≡◌}
 use native.Mathlib.Omega.{arith}
 use Rattle.format.specs.Kinds.{instr_number}
-use Rattle.program_nodes.specs.Positions.{type_here, type_offset}
+use Rattle.program_nodes.specs.Positions.{type_offset}
 use Rattle.program_nodes.proofs.KindNumbers.{type_first, type_second}
 use Rattle.program_nodes.proofs.Facts.{own_type_fits}
 use Rattle.program_nodes.proofs.instr.Instr.own_type.Goals as goal
