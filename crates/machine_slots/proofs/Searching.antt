@@ -115,8 +115,12 @@ pub handed_back : {A E : Type 0} (p : E) (r : Result A E) → IsErr r × IsErrAn
 handed_back p (Ok a) h = absurd h.1
 handed_back p (Err e) h = ap Err h.1
 
-pub same_ok : {a b : Tally} → ◌≡◌ {A = Result Tally ℕ} (Ok a) (Ok b) → a ≡ b
+same_ok : {a b : Tally} → ◌≡◌ {A = Result Tally ℕ} (Ok a) (Ok b) → a ≡ b
 same_ok {a} {b} e = ap (λ (r : Result Tally ℕ). elim r [ Ok x ↦ x | Err p ↦ a ]) e
+
+-- the tally of a search for none
+pub tally_is : {r : Result Tally ℕ} {t : Tally} (xs : List ℕ) → r ≡ searched none_yet xs none → r ≡ Ok t → t ≡ counted xs
+tally_is xs e z = same_ok (sym z ∙ (e ∙ all_counted xs))
 
 -- THE SLOT by what is read
 pub one_in : (n i : ℕ) → i < n → some i ≡ one_of n i
