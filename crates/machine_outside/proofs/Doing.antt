@@ -23,8 +23,8 @@ use Rattle.machine_state.specs.declared.frame.Frame.{Frame}
 use Rattle.machine_state.specs.declared.halt.Halt.{Halt}
 use Rattle.machine_state.specs.declared.halt.Halt.TheVariants as halts
 use Rattle.machine_state.proofs.Running.{value_some, value_none}
-use Rattle.machine_state.proofs.Asking.{found, lacking, found_then, lacking_then, result}
-use Rattle.machine_outside.specs.Outside.{left, TakesWord, taken_into, Takes, ReadsState, context_of, LendsContext, DoesContext}
+use Rattle.machine_state.proofs.Asking.{gone_on, found, lacking, found_then, lacking_then, result}
+use Rattle.machine_outside.specs.Outside.{left, TakesWord, taken_into, Takes, Uses, ReadsState, context_of, LendsContext, DoesContext}
 use Rattle.machine_outside.specs.declared.lent.Outside.{Outside}
 use Rattle.machine_outside.specs.declared.lent.Context.{Context}
 
@@ -91,7 +91,7 @@ module _ {state : List ℕ} {k : ℕ} {r : Result ℕ Halt} (S : ReadsState stat
       run = λ lent frames outside block depth m R.
           subst (λ (x : Answer). Gone memory frames state outside (at t block depth) x (step_instr plain_words lent m o (Instruction.StateRead ty k))) (sym y)
           (subst (λ (x : defs.Result (Stop ℕ) ℕ). Gone memory frames state outside (at t block depth) (Err h) (x >>= λ (w : ℕ). defs.ok (give_result o w m))) (slot_lacks z m R.state_is) refl);
-      kept = λ h z. refl;
+      kept = λ h z. (refl, refl);
     }
 
     pub read_does : {after : List ℕ} {w room : ℕ} → r ≡ Ok w → Given room t o → w < 2 ^ 64 → after ≡ given memory t o w → (ty : IrType) → DoesState t memory after state state o (Instruction.StateRead ty k) (Ok tt)
@@ -99,7 +99,7 @@ module _ {state : List ℕ} {k : ℕ} {r : Result ℕ Halt} (S : ReadsState stat
     read_does {after} z G small g ty = record {
       run = λ lent frames outside block depth m R.
           subst (λ (x : defs.Result (Stop ℕ) ℕ). Gone after frames state outside (at t block depth) (Ok tt) (x >>= λ (w : ℕ). defs.ok (give_result o w m))) (slot_is z m R.state_is) (result R G small g);
-      kept = λ h z. refl;
+      kept = λ h z. gone_on z;
     }
 
 -- a state word written
@@ -116,7 +116,7 @@ module _ {t : Frame} {memory state : List ℕ} {v : ℕ} {x : Option ℕ} (e : w
     run = λ lent frames outside block depth m R.
         subst (λ (x : Answer). Gone memory frames state outside (at t block depth) x (step_instr plain_words lent m o (Instruction.StateWrite k v))) (sym y)
         (lacking (Gone memory frames state outside (at t block depth) (Err halts.Unset)) (write_rest m k) (value_none R v e z) refl);
-    kept = λ h z. refl;
+    kept = λ h z. (refl, refl);
   }
 
   module _ {w k : ℕ} {s : Result ℕ Halt} (z : x ≡ Some w) (S : ReadsState state k s) where
@@ -127,7 +127,7 @@ module _ {t : Frame} {memory state : List ℕ} {v : ℕ} {x : Option ℕ} (e : w
           subst (λ (x : Answer). Gone memory frames state outside (at t block depth) x (step_instr plain_words lent m o (Instruction.StateWrite k v))) (sym y)
           (found (Gone memory frames state outside (at t block depth) (Err h)) (write_rest m k) (value_some R v e z)
           (subst (λ (x : defs.Result (Stop ℕ) ℕ). Gone memory frames state outside (at t block depth) (Err h) (x >> defs.ok (written m k w))) (slot_lacks S i m R.state_is) refl));
-      kept = λ h z. refl;
+      kept = λ h z. (refl, refl);
     }
 
     pub write_does : {b : ℕ} {words : List ℕ} → s ≡ Ok b → words ≡ set state k w → (o : maths.Option ℕ) → DoesState t memory memory state words o (Instruction.StateWrite k v) (Ok tt)
@@ -143,7 +143,7 @@ module _ {t : Frame} {memory state : List ℕ} {v : ℕ} {x : Option ℕ} (e : w
             outside_is = R.outside_is;
             shallow = R.shallow;
           }));
-      kept = λ h z. let y : ◌≡◌ {A = ℕ} 0 1 = ap (λ (x : Answer). elim x [ Ok a ↦ 0 | Err b ↦ 1 ]) z in absurd (omega arith);
+      kept = λ h z. gone_on z;
     }
 
 -- OUTSIDE RESULTS
@@ -158,36 +158,49 @@ none_taken : (o : maths.Option ℕ) (m : Machine ℕ) → m.outside ≡ [] → t
 unfolding taken_into take_outside
 none_taken o m e = rw e
 
-module _ {t : Frame} (old new : Outside) {x : Option ℕ} (T : TakesWord old new x) where
-  pub takes_none : {memory : List ℕ} {o : maths.Option ℕ} (r : Answer) → x ≡ None → r ≡ Err halts.ListUsedUp → Takes t memory memory (left old) (left new) o r
-  takes_none {memory} {o} r z y = record {
+module _ (old new : Outside) {x : Option ℕ} (T : TakesWord old new x) where
+  pub takes_none : {t : Frame} {memory : List ℕ} {o : maths.Option ℕ} (r : Answer) → x ≡ None → r ≡ Err halts.ListUsedUp → Takes t memory memory (left old) (left new) o r
+  takes_none {t} {memory} {o} r z y = record {
     run = λ frames state block depth m R.
-        let e : left old ≡ [] = subst (TakesWord old new) z T in
+        let e : left old ≡ [] = (subst (TakesWord old new) z T).0 in
         subst (λ (r : Answer). Gone memory frames state (left new) (at t block depth) r (taken_into o m)) (sym y)
         (subst (Gone memory frames state (left new) (at t block depth) (Err halts.ListUsedUp)) (sym (none_taken o m (R.outside_is ∙ e))) refl);
+    kept = λ h w. (refl, ap left (subst (TakesWord old new) z T).1);
   }
 
-  pub takes_one : {before after : List ℕ} {o : maths.Option ℕ} {w room : ℕ} → x ≡ Some w → Given room t o → w < 2 ^ 64 → after ≡ given before t o w → Takes t before after (left old) (left new) o (Ok tt)
-  takes_one {before} {after} {o} {w} z G small g = record {
+  pub takes_one : {t : Frame} {before after : List ℕ} {o : maths.Option ℕ} {w room : ℕ} → x ≡ Some w → Given room t o → w < 2 ^ 64 → after ≡ given before t o w → Takes t before after (left old) (left new) o (Ok tt)
+  takes_one {t} {before} {after} {o} {w} z G small g = record {
     run = λ frames state block depth m R.
-        let e : left old ≡ w ∷ left new = subst (TakesWord old new) z T in
+        let e : left old ≡ w ∷ left new = (subst (TakesWord old new) z T).0 in
         let N : Running before frames state (left new) (at t block depth) (without m (left new)) = record { top = R.top; callers = R.callers; state_is = R.state_is; outside_is = refl; shallow = R.shallow } in
         subst (Gone after frames state (left new) (at t block depth) (Ok tt)) (sym (taken_is o m w (left new) (R.outside_is ∙ e))) (result N G small g);
+    kept = λ h w. gone_on w;
   }
 
+  pub uses_none : (r : Answer) → x ≡ None → Uses old new r
+  uses_none r z = let e : new ≡ old = (subst (TakesWord old new) z T).1 in record { words = ap (λ (o : Outside). o.words.now) e; kept = λ h w. e }
+
+  pub uses_one : {w : ℕ} → x ≡ Some w → Uses old new (Ok tt)
+  uses_one z = record { words = (subst (TakesWord old new) z T).1; kept = λ h w. gone_on w }
+
+pub uses_nothing : (o : Outside) (r : Answer) → Uses o o r
+uses_nothing o r = record { words = refl; kept = λ h z. refl }
+
 module _ {t : Frame} {before : List ℕ} {v : ℕ} {x : Option ℕ} (e : word_of x ≡ value_word before t v) where
-  pub load_lacks : {outside rest : List ℕ} {o : maths.Option ℕ} (r : Answer) → x ≡ None → r ≡ Err halts.Unset → (ty : IrType) (offset : ℕ) → DoesOutside t before before outside rest o (Instruction.Load ty v offset) r
+  pub load_lacks : {outside : List ℕ} {o : maths.Option ℕ} (r : Answer) → x ≡ None → r ≡ Err halts.Unset → (ty : IrType) (offset : ℕ) → DoesOutside t before before outside outside o (Instruction.Load ty v offset) r
   unfolding step_instr taken_into
-  load_lacks {outside} {rest} {o} r z y ty offset = record {
+  load_lacks {outside} {o} r z y ty offset = record {
     run = λ lent frames state block depth m R.
-        subst (λ (r : Answer). Gone before frames state rest (at t block depth) r (step_instr plain_words lent m o (Instruction.Load ty v offset))) (sym y)
-        (lacking_then (Gone before frames state rest (at t block depth) (Err halts.Unset)) (taken_into o m) (value_none R v e z) refl);
+        subst (λ (r : Answer). Gone before frames state outside (at t block depth) r (step_instr plain_words lent m o (Instruction.Load ty v offset))) (sym y)
+        (lacking_then (Gone before frames state outside (at t block depth) (Err halts.Unset)) (taken_into o m) (value_none R v e z) refl);
+    kept = λ h z. (refl, refl);
   }
 
   pub load_does : {after outside rest : List ℕ} {o : maths.Option ℕ} {a : ℕ} {r : Answer} → x ≡ Some a → Takes t before after outside rest o r → (ty : IrType) (offset : ℕ) → DoesOutside t before after outside rest o (Instruction.Load ty v offset) r
   unfolding step_instr taken_into
   load_does {after} {outside} {rest} {o} {r = r} z T ty offset = record {
     run = λ lent frames state block depth m R. found_then (Gone after frames state rest (at t block depth) r) (taken_into o m) (value_some R v e z) (T.run frames state block depth m R);
+    kept = T.kept;
   }
 
 abbrev hash_rest : ℕ → maths.Option ℕ → Machine ℕ → defs.Result (Stop ℕ) (Machine ℕ)
@@ -197,12 +210,13 @@ abbrev store_rest : ℕ → Machine ℕ → defs.Result (Stop ℕ) (Machine ℕ)
 store_rest p m = ok_or_else (word_at p m.top.values) (outcome unset) >> defs.err (outcome store)
 
 module _ {t : Frame} {before : List ℕ} {l : ℕ} {x : Option ℕ} (e : word_of x ≡ value_word before t l) where
-  pub poseidon_lacks_left : {outside rest : List ℕ} {o : maths.Option ℕ} (p : ℕ) (r : Answer) → x ≡ None → r ≡ Err halts.Unset → DoesOutside t before before outside rest o (Instruction.Poseidon l p) r
+  pub poseidon_lacks_left : {outside : List ℕ} {o : maths.Option ℕ} (p : ℕ) (r : Answer) → x ≡ None → r ≡ Err halts.Unset → DoesOutside t before before outside outside o (Instruction.Poseidon l p) r
   unfolding step_instr taken_into
-  poseidon_lacks_left {outside} {rest} {o} p r z y = record {
+  poseidon_lacks_left {outside} {o} p r z y = record {
     run = λ lent frames state block depth m R.
-        subst (λ (r : Answer). Gone before frames state rest (at t block depth) r (step_instr plain_words lent m o (Instruction.Poseidon l p))) (sym y)
-        (lacking_then (Gone before frames state rest (at t block depth) (Err halts.Unset)) (hash_rest p o m) (value_none R l e z) refl);
+        subst (λ (r : Answer). Gone before frames state outside (at t block depth) r (step_instr plain_words lent m o (Instruction.Poseidon l p))) (sym y)
+        (lacking_then (Gone before frames state outside (at t block depth) (Err halts.Unset)) (hash_rest p o m) (value_none R l e z) refl);
+    kept = λ h z. (refl, refl);
   }
 
   pub store_lacks_base : (p : ℕ) (r : Answer) → x ≡ None → r ≡ Err halts.Unset → (o : maths.Option ℕ) (offset : ℕ) → Does t before before o (Instruction.Store l offset p) r
@@ -211,16 +225,18 @@ module _ {t : Frame} {before : List ℕ} {l : ℕ} {x : Option ℕ} (e : word_of
     run = λ lent frames state outside block depth m R.
         subst (λ (r : Answer). Gone before frames state outside (at t block depth) r (step_instr plain_words lent m o (Instruction.Store l offset p))) (sym y)
         (lacking_then (Gone before frames state outside (at t block depth) (Err halts.Unset)) (store_rest p m) (value_none R l e z) refl);
+    kept = λ h z. refl;
   }
 
   module _ {a p : ℕ} {y : Option ℕ} (z : x ≡ Some a) (f : word_of y ≡ value_word before t p) where
-    pub poseidon_lacks_right : {outside rest : List ℕ} {o : maths.Option ℕ} (r : Answer) → y ≡ None → r ≡ Err halts.Unset → DoesOutside t before before outside rest o (Instruction.Poseidon l p) r
+    pub poseidon_lacks_right : {outside : List ℕ} {o : maths.Option ℕ} (r : Answer) → y ≡ None → r ≡ Err halts.Unset → DoesOutside t before before outside outside o (Instruction.Poseidon l p) r
     unfolding step_instr taken_into
-    poseidon_lacks_right {outside} {rest} {o} r u h = record {
+    poseidon_lacks_right {outside} {o} r u h = record {
       run = λ lent frames state block depth m R.
-          subst (λ (r : Answer). Gone before frames state rest (at t block depth) r (step_instr plain_words lent m o (Instruction.Poseidon l p))) (sym h)
-          (found_then (Gone before frames state rest (at t block depth) (Err halts.Unset)) (hash_rest p o m) (value_some R l e z)
-          (lacking_then (Gone before frames state rest (at t block depth) (Err halts.Unset)) (taken_into o m) (value_none R p f u) refl));
+          subst (λ (r : Answer). Gone before frames state outside (at t block depth) r (step_instr plain_words lent m o (Instruction.Poseidon l p))) (sym h)
+          (found_then (Gone before frames state outside (at t block depth) (Err halts.Unset)) (hash_rest p o m) (value_some R l e z)
+          (lacking_then (Gone before frames state outside (at t block depth) (Err halts.Unset)) (taken_into o m) (value_none R p f u) refl));
+      kept = λ h z. (refl, refl);
     }
 
     pub poseidon_does : {after outside rest : List ℕ} {o : maths.Option ℕ} {b : ℕ} {r : Answer} → y ≡ Some b → Takes t before after outside rest o r → DoesOutside t before after outside rest o (Instruction.Poseidon l p) r
@@ -229,6 +245,7 @@ module _ {t : Frame} {before : List ℕ} {l : ℕ} {x : Option ℕ} (e : word_of
       run = λ lent frames state block depth m R.
           found_then (Gone after frames state rest (at t block depth) r) (hash_rest p o m) (value_some R l e z)
           (found_then (Gone after frames state rest (at t block depth) r) (taken_into o m) (value_some R p f u) (T.run frames state block depth m R));
+      kept = T.kept;
     }
 
     pub store_lacks_value : (r : Answer) → y ≡ None → r ≡ Err halts.Unset → (o : maths.Option ℕ) (offset : ℕ) → Does t before before o (Instruction.Store l offset p) r
@@ -238,6 +255,7 @@ module _ {t : Frame} {before : List ℕ} {l : ℕ} {x : Option ℕ} (e : word_of
           subst (λ (r : Answer). Gone before frames state outside (at t block depth) r (step_instr plain_words lent m o (Instruction.Store l offset p))) (sym h)
           (found_then (Gone before frames state outside (at t block depth) (Err halts.Unset)) (store_rest p m) (value_some R l e z)
           (lacking_then (Gone before frames state outside (at t block depth) (Err halts.Unset)) (defs.err (outcome store)) (value_none R p f u) refl));
+      kept = λ h z. refl;
     }
 
     pub store_stops : {b : ℕ} → y ≡ Some b → (o : maths.Option ℕ) (offset : ℕ) → Does t before before o (Instruction.Store l offset p) (Err halts.Store)
@@ -246,4 +264,5 @@ module _ {t : Frame} {before : List ℕ} {l : ℕ} {x : Option ℕ} (e : word_of
       run = λ lent frames state outside block depth m R.
           found_then (Gone before frames state outside (at t block depth) (Err halts.Store)) (store_rest p m) (value_some R l e z)
           (found_then (Gone before frames state outside (at t block depth) (Err halts.Store)) (defs.err (outcome store)) (value_some R p f u) refl);
+      kept = λ h z. refl;
     }

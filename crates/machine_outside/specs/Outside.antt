@@ -1,6 +1,6 @@
 -- What a step on what is lent promises, beyond crates/machine_state. Untrusted helpers of contracts: no public promise cites them.
 -- Assumes nothing: these are definitions.
-use Rattle.std.specs.Prelude.{ℕ, ◌≡◌, List, [], ◌∷◌, drop, Option, None, Some, Result, Ok}
+use Rattle.std.specs.Prelude.{ℕ, ◌≡◌, List, [], ◌∷◌, drop, Option, None, Some, Result, Ok, Err}
 use Rattle.std.proofs.Math.Option as maths
 use Rattle.definitions.specs.Result as defs
 use Rattle.definitions.specs.Result.{◌>>=◌}
@@ -10,19 +10,19 @@ use Rattle.format.specs.declared.program.ContextKind.{ContextKind}
 use Rattle.format.specs.declared.program.ContextKind.TheVariants as kind
 use Rattle.ir.specs.Answers.{result_of}
 use Rattle.program_nodes.specs.declared.block.Records.{Records}
-use Rattle.machine_state.specs.Running.{Running, Gone, halt_of, at}
+use Rattle.machine_state.specs.Running.{Running, Gone, DoesOutside, halt_of, at}
 use Rattle.machine_state.specs.declared.frame.Frame.{Frame}
 use Rattle.machine_state.specs.declared.halt.Halt.{Halt}
 use Rattle.machine_outside.specs.declared.lent.Outside.{Outside}
 use Rattle.machine_outside.specs.declared.lent.Context.{Context}
 
--- OUTSIDE RESULTS that are left; the first of them is taken
+-- OUTSIDE RESULTS that are left; the first of them is taken, or there is none and they stay
 abbrev pub left : Outside → List ℕ
 left o = drop o.used o.words.now
 
 abbrev pub TakesWord : (old new : Outside) → Option ℕ → Type 0
-TakesWord old new None = left old ≡ []
-TakesWord old new (Some w) = left old ≡ w ∷ left new
+TakesWord old new None = (left old ≡ []) × (new ≡ old)
+TakesWord old new (Some w) = (left old ≡ w ∷ left new) × (new.words.now ≡ old.words.now)
 
 -- the next outside result, for a result id
 unfoldable pub taken_into : maths.Option ℕ → Machine ℕ → defs.Result (Stop ℕ) (Machine ℕ)
@@ -33,6 +33,16 @@ taken_into o m = do
 pub record Takes (t : Frame) (before after outside rest : List ℕ) (o : maths.Option ℕ) (r : Result (Unit {0}) Halt) : Type 0 where
   pub run : (frames state : List ℕ) (block : Option Records) (depth : ℕ) (m : Machine ℕ) → Running before frames state outside (at t block depth) m
       → Gone after frames state rest (at t block depth) r (taken_into o m)
+  pub kept : (h : Halt) → r ≡ Err h → (after ≡ before) × (rest ≡ outside)
+
+-- what is left of them is of the same list, and where the run stops nothing of it is used
+pub record Uses (old new : Outside) (r : Result (Unit {0}) Halt) : Type 0 where
+  pub words : new.words.now ≡ old.words.now
+  pub kept : (h : Halt) → r ≡ Err h → new ≡ old
+
+-- an instruction that takes one of them
+abbrev pub DoesTaking : Frame → (before after : List ℕ) → (old new : Outside) → maths.Option ℕ → Instruction → Result (Unit {0}) Halt → Type 0
+DoesTaking t before after old new o i r = DoesOutside t before after (left old) (left new) o i r
 
 -- STATE WORDS: the answer is the machine's
 pub record ReadsState (state : List ℕ) (slot : ℕ) (r : Result ℕ Halt) : Type 0 where

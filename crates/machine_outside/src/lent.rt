@@ -1,5 +1,6 @@
 // What is lent: outside results and context words.
-ghost use Rattle.std.specs.Prelude.{◌≡◌};
+ghost use Rattle.std.specs.Prelude.{◌≡◌, ◌-◌, length};
+ghost use Rattle.std.specs.Iterator.{at_most};
 ghost use Rattle.machine_outside.specs.Outside.{TakesWord, context_of};
 
 use format::program::ContextKind;
@@ -11,11 +12,14 @@ pub struct Outside<'a> {
     pub used: usize,
 }
 
-impl Outside<'_> {
-    // Takes the first of those that are left.
-    pub fn next(&mut self) -> Option<u64>
-        ensures { TakesWord self.old self.new result }
-    {
+impl Iterator for Outside<'_> {
+    type Item = u64;
+
+    ghost next_gives = { λ old word new. TakesWord old new word };
+
+    ghost remaining = { λ outside. at_most (length outside.words.now - outside.used) };
+
+    fn next(&mut self) -> Option<u64> {
         let word = *self.words.get(self.used)?;
         self.used += 1;
         Some(word)

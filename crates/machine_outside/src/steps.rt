@@ -4,8 +4,8 @@ ghost use Rattle.std.proofs.Math.Option as maths;
 ghost use Rattle.definitions.specs.Ir.{IrType, Instruction};
 ghost use Rattle.format.specs.Contexts.{context_number};
 ghost use Rattle.machine_state.specs.Frames.{id_of, Fits, Given};
-ghost use Rattle.machine_state.specs.Running.{Does, DoesState, DoesOutside};
-ghost use Rattle.machine_outside.specs.Outside.{left, ReadsState, Takes, DoesContext};
+ghost use Rattle.machine_state.specs.Running.{Does, DoesState};
+ghost use Rattle.machine_outside.specs.Outside.{left, ReadsState, Takes, Uses, DoesTaking, DoesContext};
 
 use crate::lent::{Context, Outside};
 use format::program::ContextKind;
@@ -55,6 +55,7 @@ pub fn step_state_write(
     ensures { (o : maths.Option ℕ) → DoesState frame.now memory.now memory.now state.old state.new o (Instruction.StateWrite slot value.0) result }
 {
     let word = frame.value(memory, value).ok_or(Halt::Unset)?;
+    // No `get_mut`: its Option tells nothing of a negative slot, and what it lends is not known to be unchanged where `ok_or` makes an error of it.
     let _before = state_word(state, slot)?;
     state[slot] = word;
     Ok(())
@@ -68,7 +69,8 @@ fn take_outside(
     to: Option<ValueId>,
 ) -> Result<(), Halt>
     requires { Given (length memory.old) frame.now (id_of to) }
-    ensures { Takes frame.now memory.old memory.new (left outside.old) (left outside.new) (id_of to) result }
+    ensures does { Takes frame.now memory.old memory.new (left outside.old) (left outside.new) (id_of to) result }
+    ensures uses { Uses outside.old outside.new result }
 {
     let word = outside.next().ok_or(Halt::ListUsedUp)?;
     frame.give(memory, to, word);
@@ -84,7 +86,8 @@ pub fn step_load(
     base: ValueId,
 ) -> Result<(), Halt>
     requires { Given (length memory.old) frame.now (id_of to) }
-    ensures { (t : IrType) (o : ℕ) → DoesOutside frame.now memory.old memory.new (left outside.old) (left outside.new) (id_of to) (Instruction.Load t base.0 o) result }
+    ensures does { (t : IrType) (o : ℕ) → DoesTaking frame.now memory.old memory.new outside.old outside.new (id_of to) (Instruction.Load t base.0 o) result }
+    ensures uses { Uses outside.old outside.new result }
 {
     let _word = frame.value(memory, base).ok_or(Halt::Unset)?;
     take_outside(frame, memory, outside, to)
@@ -100,7 +103,8 @@ pub fn step_poseidon(
     rhs: ValueId,
 ) -> Result<(), Halt>
     requires { Given (length memory.old) frame.now (id_of to) }
-    ensures { DoesOutside frame.now memory.old memory.new (left outside.old) (left outside.new) (id_of to) (Instruction.Poseidon lhs.0 rhs.0) result }
+    ensures does { DoesTaking frame.now memory.old memory.new outside.old outside.new (id_of to) (Instruction.Poseidon lhs.0 rhs.0) result }
+    ensures uses { Uses outside.old outside.new result }
 {
     let _a = frame.value(memory, lhs).ok_or(Halt::Unset)?;
     let _b = frame.value(memory, rhs).ok_or(Halt::Unset)?;

@@ -12,15 +12,15 @@ use Rattle.std.specs.Prelude.{Result, Ok, Err, IsErr, IsErrAnd}
 use Rattle.std.specs.Result.{result_err}
 use Rattle.ir.specs.Answers.{option_of}
 use Rattle.definitions.proofs.Results.{by_test}
-use Rattle.machine_slots.specs.Slots.{is_it, with_one, passed, searched, none_yet, index_of, Among, above, counted, slot_for, one_of}
-use Rattle.machine_slots.specs.declared.Ids.{Ids}
+use Rattle.machine_slots.specs.Slots.{is_it, with_one, passed, searched, none_yet, index_of, Among, above, above_all, counted, slot_for, one_of}
+use Rattle.machine_slots.specs.declared.Tally.{Tally}
 
 -- what a search says of a list goes on over another
-abbrev onward : Option ℕ → Result Ids ℕ → List ℕ → Result Ids ℕ
+abbrev onward : Option ℕ → Result Tally ℕ → List ℕ → Result Tally ℕ
 onward v (Ok j) ys = searched j ys v
 onward v (Err p) ys = Err p
 
-search_append : (v : Option ℕ) (xs ys : List ℕ) (i : Ids) → searched i (xs ++ ys) v ≡ onward v (searched i xs v) ys
+search_append : (v : Option ℕ) (xs ys : List ℕ) (i : Tally) → searched i (xs ++ ys) v ≡ onward v (searched i xs v) ys
 unfolding searched
 search_append v [] ys i = refl
 search_append v (x ∷ xs) ys i =
@@ -28,15 +28,15 @@ search_append v (x ∷ xs) ys i =
     (λ q. rw (q, searched))
     (λ q. rw (q, searched) (search_append v xs ys (with_one i x)))
 
-pub one_id : (i : Ids) (x : ℕ) (v : Option ℕ) → passed i x v ≡ searched i (x ∷ []) v
+pub one_id : (i : Tally) (x : ℕ) (v : Option ℕ) → passed i x v ≡ searched i (x ∷ []) v
 unfolding searched
 one_id i x v = refl
 
-abbrev count_in : ℕ → Result Ids ℕ → ℕ
+abbrev count_in : ℕ → Result Tally ℕ → ℕ
 count_in d (Ok j) = j.count
 count_in d (Err p) = d
 
-count_after : (v : Option ℕ) (xs : List ℕ) (i : Ids) → count_in (i.count + length xs) (searched i xs v) ≡ i.count + length xs
+count_after : (v : Option ℕ) (xs : List ℕ) (i : Tally) → count_in (i.count + length xs) (searched i xs v) ≡ i.count + length xs
 unfolding searched
 count_after v [] i = omega arith
 count_after v (x ∷ xs) i =
@@ -45,32 +45,32 @@ count_after v (x ∷ xs) i =
     (λ q. rw (q, searched) (let e : i.count + suc (length xs) ≡ suc i.count + length xs = omega arith in rw e (count_after v xs (with_one i x))))
 
 -- WHAT IS LEFT to search gives what the whole gives
-pub record Left (v : Option ℕ) (whole : Result Ids ℕ) (top : ℕ) (i : Ids) (rest : List ℕ) : Type 0 where
+pub record Left (v : Option ℕ) (whole : Result Tally ℕ) (top : ℕ) (i : Tally) (rest : List ℕ) : Type 0 where
   pub same : searched i rest v ≡ whole
   pub room : i.count + length rest ≤ top
 
-module _ {v : Option ℕ} {whole : Result Ids ℕ} {top : ℕ} {i : Ids} where
+module _ {v : Option ℕ} {whole : Result Tally ℕ} {top : ℕ} {i : Tally} where
   pub left_as : {xs ys : List ℕ} → xs ≡ ys → Left v whole top i xs → Left v whole top i ys
   left_as e L = subst (Left v whole top i) e L
 
-  pub left_on : (xs : List ℕ) {ys : List ℕ} {j : Ids} → Left v whole top i (xs ++ ys) → searched i xs v ≡ Ok j → Left v whole top j ys
+  pub left_on : (xs : List ℕ) {ys : List ℕ} {j : Tally} → Left v whole top i (xs ++ ys) → searched i xs v ≡ Ok j → Left v whole top j ys
   left_on xs {ys} {j} L e =
-      let n : j.count ≡ i.count + length xs = subst (λ (r : Result Ids ℕ). count_in (i.count + length xs) r ≡ i.count + length xs) e (count_after v xs i) in
+      let n : j.count ≡ i.count + length xs = subst (λ (r : Result Tally ℕ). count_in (i.count + length xs) r ≡ i.count + length xs) e (count_after v xs i) in
       let r = L.room in
       let m = rw length-append at r in
       record {
-        same = ap (λ (r : Result Ids ℕ). onward v r ys) (sym e) ∙ (sym (search_append v xs ys i) ∙ L.same);
+        same = ap (λ (r : Result Tally ℕ). onward v r ys) (sym e) ∙ (sym (search_append v xs ys i) ∙ L.same);
         room = omega arith;
       }
 
   pub left_found : (xs ys : List ℕ) {p : ℕ} → Left v whole top i (xs ++ ys) → searched i xs v ≡ Err p → Err p ≡ whole
-  left_found xs ys L e = ap (λ (r : Result Ids ℕ). onward v r ys) (sym e) ∙ (sym (search_append v xs ys i) ∙ L.same)
+  left_found xs ys L e = ap (λ (r : Result Tally ℕ). onward v r ys) (sym e) ∙ (sym (search_append v xs ys i) ∙ L.same)
 
   -- the front one, passed
-  pub one_on : {xs ys : List ℕ} {x : ℕ} {j : Ids} {r : Result Ids ℕ} → Left v whole top i xs → xs ≡ x ∷ ys → r ≡ passed i x v → r ≡ Ok j → Left v whole top j ys
+  pub one_on : {xs ys : List ℕ} {x : ℕ} {j : Tally} {r : Result Tally ℕ} → Left v whole top i xs → xs ≡ x ∷ ys → r ≡ passed i x v → r ≡ Ok j → Left v whole top j ys
   one_on {x = x} L e p z = left_on (x ∷ []) (left_as e L) (sym (one_id i x v) ∙ (sym p ∙ z))
 
-  pub one_found : {xs ys : List ℕ} {x p : ℕ} {r : Result Ids ℕ} → Left v whole top i xs → xs ≡ x ∷ ys → r ≡ passed i x v → r ≡ Err p → Err p ≡ whole
+  pub one_found : {xs ys : List ℕ} {x p : ℕ} {r : Result Tally ℕ} → Left v whole top i xs → xs ≡ x ∷ ys → r ≡ passed i x v → r ≡ Err p → Err p ≡ whole
   one_found {ys = ys} {x = x} L e p z = left_found (x ∷ []) ys (left_as e L) (sym (one_id i x v) ∙ (sym p ∙ z))
 
   pub one_room : {xs ys : List ℕ} {x : ℕ} → Left v whole top i xs → xs ≡ x ∷ ys → i.count + 1 ≤ top
@@ -81,7 +81,7 @@ module _ {v : Option ℕ} {whole : Result Ids ℕ} {top : ℕ} {i : Ids} where
   nothing_left L e = (left_as e L).same
 
 -- ALL OF THEM, where none is sought
-pub all_passed : (xs : List ℕ) (i : Ids) → searched i xs none ≡ Ok (record { count = i.count + length xs; above = above xs i.above })
+pub all_passed : (xs : List ℕ) (i : Tally) → searched i xs none ≡ Ok (record { count = i.count + length xs; above = above xs i.above })
 unfolding searched above
 all_passed [] i = ap (λ (n : ℕ). Ok (record { count = n; above = i.above })) (omega arith)
 all_passed (x ∷ xs) i = all_passed xs (with_one i x) ∙ ap (λ (n : ℕ). Ok (record { count = n; above = above xs (with_one i x).above })) (omega arith)
@@ -90,7 +90,7 @@ pub all_counted : (xs : List ℕ) → searched none_yet xs none ≡ Ok (counted 
 all_counted xs = all_passed xs none_yet ∙ ap (λ (n : ℕ). Ok (record { count = n; above = above xs 0 })) (omega arith)
 
 -- THE POSITION of one
-pub is_in : (v : ℕ) (xs : List ℕ) (i : Ids) → Among v xs → searched i xs (some v) ≡ Err (i.count + index_of v xs)
+pub is_in : (v : ℕ) (xs : List ℕ) (i : Tally) → Among v xs → searched i xs (some v) ≡ Err (i.count + index_of v xs)
 unfolding searched index_of
 is_in v [] i h = absurd (omega arith)
 is_in v (x ∷ xs) i h =
@@ -100,7 +100,7 @@ is_in v (x ∷ xs) i h =
     let k : suc (index_of v xs) < suc (length xs) = rw (q, index_of) at h in
     rw (q, searched, index_of) (is_in v xs (with_one i x) (omega arith) ∙ ap Err (omega arith)))
 
-pub not_in : (v : ℕ) (xs : List ℕ) (i : Ids) → length xs ≤ index_of v xs → (j : Ids) × (searched i xs (some v) ≡ Ok j)
+pub not_in : (v : ℕ) (xs : List ℕ) (i : Tally) → length xs ≤ index_of v xs → (j : Tally) × (searched i xs (some v) ≡ Ok j)
 unfolding searched index_of
 not_in v [] i h = (i, refl)
 not_in v (x ∷ xs) i h =
@@ -115,8 +115,12 @@ pub handed_back : {A E : Type 0} (p : E) (r : Result A E) → IsErr r × IsErrAn
 handed_back p (Ok a) h = absurd h.1
 handed_back p (Err e) h = ap Err h.1
 
-pub same_ok : {a b : Ids} → ◌≡◌ {A = Result Ids ℕ} (Ok a) (Ok b) → a ≡ b
-same_ok {a} {b} e = ap (λ (r : Result Ids ℕ). elim r [ Ok x ↦ x | Err p ↦ a ]) e
+same_ok : {a b : Tally} → ◌≡◌ {A = Result Tally ℕ} (Ok a) (Ok b) → a ≡ b
+same_ok {a} {b} e = ap (λ (r : Result Tally ℕ). elim r [ Ok x ↦ x | Err p ↦ a ]) e
+
+-- the tally of a search for none
+pub tally_is : {r : Result Tally ℕ} {t : Tally} (xs : List ℕ) → r ≡ searched none_yet xs none → r ≡ Ok t → t ≡ counted xs
+tally_is xs e z = same_ok (sym z ∙ (e ∙ all_counted xs))
 
 -- THE SLOT by what is read
 pub one_in : (n i : ℕ) → i < n → some i ≡ one_of n i
@@ -131,19 +135,19 @@ position_is v xs =
     (λ q.
     let k : index_of v xs < length xs = ltb-true (index_of v xs) (length xs) q in
     let e : 0 + index_of v xs ≡ index_of v xs = omega arith in
-    ap (λ (r : Result Ids ℕ). option_of (λ (i : ℕ). i) (result_err r)) (is_in v xs none_yet k) ∙ (ap some e ∙ one_in (length xs) (index_of v xs) k))
+    ap (λ (r : Result Tally ℕ). option_of (λ (i : ℕ). i) (result_err r)) (is_in v xs none_yet k) ∙ (ap some e ∙ one_in (length xs) (index_of v xs) k))
     (λ q.
     let k : length xs ≤ index_of v xs = ltb-false (index_of v xs) (length xs) q in
-    ap (λ (r : Result Ids ℕ). option_of (λ (i : ℕ). i) (result_err r)) (not_in v xs none_yet k).1 ∙ one_out (length xs) (index_of v xs) k)
+    ap (λ (r : Result Tally ℕ). option_of (λ (i : ℕ). i) (result_err r)) (not_in v xs none_yet k).1 ∙ one_out (length xs) (index_of v xs) k)
 
-module _ {i : Ids} (xs : List ℕ) (v : ℕ) (e : i ≡ counted xs) where
-  tested : leb i.above i.count ≡ leb (above xs 0) (length xs)
-  tested = ap (λ (x : Ids). leb x.above x.count) e
+module _ {n m : ℕ} (xs : List ℕ) (v : ℕ) (count : n ≡ length xs) (top : m ≡ above_all xs) where
+  tested : leb m n ≡ leb (above_all xs) (length xs)
+  tested = rw (count, top) refl
 
-  pub in_order : leb i.above i.count ≡ false → slot_for xs v ≡ index_of v xs
+  pub in_order : leb m n ≡ false → slot_for xs v ≡ index_of v xs
   unfolding slot_for
   in_order q = rw (sym tested ∙ q)
 
-  pub by_id : leb i.above i.count ≡ true → slot_for xs v ≡ v
+  pub by_id : leb m n ≡ true → slot_for xs v ≡ v
   unfolding slot_for
   by_id q = rw (sym tested ∙ q)

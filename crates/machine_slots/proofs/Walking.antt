@@ -32,7 +32,7 @@ other_taken old new {r} {x} T e n = ap block_results (no_instr old new x (subst 
 
 pub none_taken : (old new : Records) {r : Option Record} → TakesRecord old new r → r ≡ None → block_results (instrs_in old) ≡ []
 unfolding block_results
-none_taken old new T e = ap block_results (subst (TakesRecord old new) e T).instrs
+none_taken old new T e = ap block_results (subst (TakesRecord old new) e T).0.instrs
 
 pub result_front : {old new : Records} {i : nodes.Instr} {o : Option ValueId} {v : ValueId} → FirstInstr old new i → option_of value_of o ≡ result_in i → o ≡ Some v
     → block_results (instrs_in old) ≡ v.0 ∷ block_results (instrs_in new)
@@ -49,7 +49,7 @@ pub param_front : (old new : Params) {r : Option Param} {p : Param} {v : ℕ} (b
 param_front old new bs T e z = let F : FirstParam old new _ = subst (TakesParam old new) e T in ap (λ l. map param_id l ++ bs) F.is ∙ ap (λ (x : ℕ). x ∷ (map param_id (params_in new) ++ bs)) (sym z)
 
 pub no_param : (old new : Params) {r : Option Param} (bs : List ℕ) → TakesParam old new r → r ≡ None → map param_id (params_in old) ++ bs ≡ bs
-no_param old new bs T e = let F : params_in old ≡ [] = subst (TakesParam old new) e T in ap (λ l. map param_id l ++ bs) F
+no_param old new bs T e = let F : (params_in old ≡ []) × (new ≡ old) = subst (TakesParam old new) e T in ap (λ l. map param_id l ++ bs) F.0
 
 pub block_front : (old new : Blocks) {r : Option Block} {b : Block} → TakesBlock old new r → r ≡ Some b → blocks_results (blocks_in old) ≡ block_results (block_in b).instrs ++ blocks_results (blocks_in new)
 unfolding blocks_results

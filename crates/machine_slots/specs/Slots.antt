@@ -7,7 +7,7 @@ use Rattle.definitions.specs.Ir.{IrType, InstrNode, BasicBlock, IrFunction}
 use Rattle.definitions.specs.Records.{pick}
 use Rattle.ir.specs.Answers.{option_of}
 use Rattle.ir.specs.declared.ValueId.{ValueId}
-use Rattle.machine_slots.specs.declared.Ids.{Ids}
+use Rattle.machine_slots.specs.declared.Tally.{Tally}
 
 -- THE IDS of a function in their order: its parameters', then its result ids
 abbrev pub id_or_none : Option ℕ → List ℕ
@@ -41,28 +41,31 @@ unfoldable pub above : List ℕ → ℕ → ℕ
 above [] m = m
 above (x ∷ xs) m = above xs (pick (ltb x m) m (suc x))
 
+abbrev pub above_all : List ℕ → ℕ
+above_all ids = above ids 0
+
 -- how many they are, and a number above all of them
-abbrev pub counted : List ℕ → Ids
-counted ids = record { count = length ids; above = above ids 0 }
+abbrev pub counted : List ℕ → Tally
+counted ids = record { count = length ids; above = above_all ids }
 
 -- A SEARCH for v passes one id after another, and stops at v with its position
 abbrev pub id_of : code.Option ValueId → Option ℕ
 id_of = option_of (λ v. v.0)
 
-abbrev pub none_yet : Ids
+abbrev pub none_yet : Tally
 none_yet = record { count = 0; above = 0 }
 
-abbrev pub with_one : Ids → ℕ → Ids
+abbrev pub with_one : Tally → ℕ → Tally
 with_one i x = record { count = suc i.count; above = pick (ltb x i.above) i.above (suc x) }
 
 abbrev pub is_it : ℕ → Option ℕ → Bool
 is_it x none = false
 is_it x (some v) = eqb x v
 
-abbrev pub passed : Ids → ℕ → Option ℕ → code.Result Ids ℕ
+abbrev pub passed : Tally → ℕ → Option ℕ → code.Result Tally ℕ
 passed i x v = pick (is_it x v) (code.Err i.count) (code.Ok (with_one i x))
 
-unfoldable pub searched : Ids → List ℕ → Option ℕ → code.Result Ids ℕ
+unfoldable pub searched : Tally → List ℕ → Option ℕ → code.Result Tally ℕ
 searched i [] v = code.Ok i
 searched i (x ∷ xs) v = pick (is_it x v) (code.Err i.count) (searched (with_one i x) xs v)
 

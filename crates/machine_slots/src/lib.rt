@@ -4,33 +4,19 @@
 ghost use Rattle.std.specs.Prelude.{◌≡◌, ◌+◌, ◌^◌, ◌<◌, leb, length};
 ghost use Rattle.ir.specs.Answers.{option_of};
 ghost use Rattle.program_nodes.specs.Nodes.{ir_of, block_in};
-ghost use Rattle.machine_slots.specs.Slots.{id_of, none_yet, passed, searched, block_results, value_ids, counted, slot_for, one_of};
+ghost use Rattle.machine_slots.specs.Slots.{id_of, none_yet, passed, searched, block_results, value_ids, above_all, slot_for, one_of};
 
 use ir::ValueId;
 use program_nodes::{Block, Function, Record};
 
-// How many ids there are, and a number above all of them.
+// How many ids a search has passed, and a number above all of them.
 #[derive(Clone, Copy, Debug, PartialEq, Eq)]
-pub struct Ids {
-    pub count: usize,
-    pub above: usize,
+struct Tally {
+    count: usize,
+    above: usize,
 }
 
-impl Ids {
-    // The ids of a function.
-    pub fn of(f: Function) -> Self
-        ensures { result ≡ counted (value_ids (ir_of f.entry)) }
-    {
-        search(f, None).unwrap()
-    }
-
-    // Whether they are dense, all of them below their count.
-    pub fn dense(self) -> bool
-        ensures { result ≡ leb self.above self.count }
-    {
-        self.above <= self.count
-    }
-
+impl Tally {
     // One more id, or the position of v if it is that.
     fn pass(self, id: ValueId, v: Option<ValueId>) -> Result<Self, usize>
         requires { self.count + 1 < 2 ^ 64 }
@@ -39,7 +25,7 @@ impl Ids {
         if v == Some(id) {
             return Err(self.count);
         }
-        Ok(Ids {
+        Ok(Tally {
             count: self.count + 1,
             above: self.above.max(id.0 as usize + 1),
         })
@@ -50,45 +36,73 @@ impl Ids {
         requires { self.count + length (block_results (block_in block).instrs) < 2 ^ 64 }
         ensures { result ≡ searched self (block_results (block_in block.entry).instrs) (id_of v) }
     {
-        let mut ids = self;
-        let mut records = block.records();
-        while let Some(record) = records.next() {
+        let mut tally = self;
+        for record in block.records() {
             let Record::Instr(instr) = record else {
-                return Ok(ids);
+                return Ok(tally);
             };
             if let Some(id) = instr.result() {
-                ids = ids.pass(id, v)?;
+                tally = tally.pass(id, v)?;
             }
         }
-        Ok(ids)
+        Ok(tally)
     }
 }
 
 // All ids of a function, or the position of v if it is one of them.
-fn search(f: Function, v: Option<ValueId>) -> Result<Ids, usize>
+fn search(f: Function, v: Option<ValueId>) -> Result<Tally, usize>
     ensures { result ≡ searched none_yet (value_ids (ir_of f.entry)) (id_of v) }
 {
-    let mut ids = Ids { count: 0, above: 0 };
-    let mut params = f.params();
-    while let Some(param) = params.next() {
+    let mut tally = Tally { count: 0, above: 0 };
+    for param in f.params() {
         let id = param.value();
-        ids = ids.pass(id, v)?;
+        tally = tally.pass(id, v)?;
     }
-    let mut blocks = f.blocks();
-    while let Some(block) = blocks.next() {
-        ids = ids.pass_block(block, v)?;
+    for block in f.blocks() {
+        tally = tally.pass_block(block, v)?;
     }
-    Ok(ids)
+    Ok(tally)
 }
 
-// The slot of v in the frame of a function with these ids, if it has one.
-pub fn slot_of(f: Function, ids: Ids, v: ValueId) -> Option<usize>
-    requires { ids ≡ counted (value_ids (ir_of f)) }
-    ensures { option_of (λ i. i) result ≡ one_of (length (value_ids (ir_of f.entry))) (slot_for (value_ids (ir_of f.entry)) v.0) }
-{
-    if !ids.dense() {
-        return search(f, Some(v)).err();
+// The ids of a function: how many there are, and a number above all of them.
+#[derive(Clone, Copy, Debug)]
+pub struct Ids<'a> {
+    pub function: Function<'a>,
+    pub count: usize,
+    pub above: usize,
+    pub ghost count_is: { count ≡ length (value_ids (ir_of function)) },
+    pub ghost above_is: { above ≡ above_all (value_ids (ir_of function)) },
+}
+
+impl<'a> Ids<'a> {
+    pub fn of(f: Function<'a>) -> Self
+        ensures of_function { result.function ≡ f.entry }
+        ensures count_value { result.count ≡ length (value_ids (ir_of f.entry)) }
+        ensures above_value { result.above ≡ above_all (value_ids (ir_of f.entry)) }
+    {
+        let tally = search(f, None).unwrap();
+        Ids {
+            function: f,
+            count: tally.count,
+            above: tally.above,
+        }
     }
-    let slot = v.0 as usize;
-    if slot < ids.count { Some(slot) } else { None }
+
+    // Whether they are dense, all of them below their count.
+    pub fn dense(self) -> bool
+        ensures { result ≡ leb self.entry.above self.entry.count }
+    {
+        self.above <= self.count
+    }
+
+    // The slot of v in the frame of their function, if it has one.
+    pub fn slot_of(self, v: ValueId) -> Option<usize>
+        ensures { option_of (λ i. i) result ≡ one_of (length (value_ids (ir_of self.entry.function))) (slot_for (value_ids (ir_of self.entry.function)) v.0) }
+    {
+        if !self.dense() {
+            return search(self.function, Some(v)).err();
+        }
+        let slot = v.0 as usize;
+        if slot < self.count { Some(slot) } else { None }
+    }
 }

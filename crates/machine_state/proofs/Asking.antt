@@ -3,6 +3,7 @@ use mathlib.Core.Path.{◌≡◌, ap, sym, ◌∙◌, subst}
 use mathlib.Core.List.{List}
 use mathlib.Core.Option as maths
 use Prim.Native.Nat.{ℕ, ◌^◌, ◌<◌}
+use native.Mathlib.Omega.{arith}
 use Rattle.std.specs.Prelude.{Option, None, Some, Result, Ok, Err, IsErr, IsErrAnd}
 use Rattle.std.specs.Option.{ok_or}
 use Rattle.std.specs.Result.{result_ok}
@@ -29,6 +30,10 @@ halts_by o h e r x v p w f = handed_back e x f ∙ (let z : Err e ≡ Err h = sy
   where
     same_halt : {A B : Type 0} (e h : Halt) → ◌≡◌ {A = Result A Halt} (Err e) (Err h) → ◌≡◌ {A = Result B Halt} (Err e) (Err h)
     same_halt e h z = ap (λ (y : Result _ Halt). elim y [ Ok a ↦ Err e | Err x ↦ Err x ]) z
+
+-- what went on has not stopped
+pub gone_on : {A : Type 0} {h : Halt} → ◌≡◌ {A = Result (Unit {0}) Halt} (Ok tt) (Err h) → A
+gone_on e = absurd (let z : ◌≡◌ {A = ℕ} 0 1 = ap (λ (x : Result (Unit {0}) Halt). elim x [ Ok a ↦ 0 | Err b ↦ 1 ]) e in omega arith)
 
 -- a word that is asked for is there, or the run stops
 module _ {A : Type 0} (P : defs.Result (Stop ℕ) A → Type 0) {o : maths.Option ℕ} where

@@ -22,11 +22,12 @@ use Rattle.machine_slots.specs.Slots.{block_results, blocks_results, param_id, v
 use Rattle.machine_slots.proofs.Indices.{index_high, in_front, behind}
 use Rattle.machine_state.specs.Owned.{write_below, blocks_below}
 use Rattle.machine_state.specs.Frames.{function_in}
-use Rattle.machine_state.specs.Running.{BlockLeft, Gone, Goes}
+use Rattle.machine_state.specs.Running.{frame_sheet, BlockLeft, Gone, Goes}
 use Rattle.machine_state.specs.declared.frame.Frame.{Frame}
 use Rattle.machine_state.specs.declared.under_way.UnderWay.{UnderWay}
 use Rattle.machine_state.specs.declared.halt.Halt.{Halt}
 use Rattle.machine_state.specs.declared.halt.Halt.TheVariants as halts
+use Rattle.machine_state.proofs.Asking.{gone_on}
 
 -- IDS of a part are ids of the whole
 pub among_left : (v : ℕ) (xs ys : List ℕ) → Among v xs → Among v (xs ++ ys)
@@ -65,7 +66,7 @@ found_own n k (x ∷ xs) b e w =
     (λ q. found_own n k xs b (rw (q, find) at e) p.1)
 
 -- what is left of a block that was found, and has not begun
-pub block_left_lem : {t : Frame} (k : ℕ) (b : Block) (r : Records) → find k (function_in t).blocks ≡ some (block_in b) → b.sheet.now ≡ t.function.program.sheet.now → RecordsOf b r → BlockLeft t r (block_in b)
+pub block_left_lem : {t : Frame} (k : ℕ) (b : Block) (r : Records) → find k (function_in t).blocks ≡ some (block_in b) → b.sheet.now ≡ frame_sheet t → RecordsOf b r → BlockLeft t r (block_in b)
 unfolding value_ids
 block_left_lem {t} k b r e s R = record {
   instrs = sym R.instrs;
@@ -79,16 +80,17 @@ block_left_lem {t} k b r e s R = record {
 
 -- TO A BLOCK
 module _ {t : UnderWay} (k : ℕ) where
-  pub nowhere : (after : UnderWay) (x : Result (Unit {0}) Halt) → find k (function_in t.frame).blocks ≡ none → x ≡ Err halts.Unset → Goes t after x (λ (m : Machine ℕ). go_to m k)
+  pub nowhere : (x : Result (Unit {0}) Halt) → find k (function_in t.frame).blocks ≡ none → x ≡ Err halts.Unset → Goes t t x (λ (m : Machine ℕ). go_to m k)
   unfolding go_to
-  nowhere after x z f = record {
+  nowhere x z f = record {
     run = λ memory frames state outside m R.
         let e : find k m.top.function.blocks ≡ none = ap (λ (f : IrFunction). find k f.blocks) R.top.function_is ∙ z in
-        subst (λ (y : Result (Unit {0}) Halt). Gone memory frames state outside after y (go_to m k)) (sym f)
-        (subst (λ (o : Option BasicBlock). Gone memory frames state outside after (Err halts.Unset) (ok_or_else o (outcome unset) >>= λ (b : BasicBlock). ok (with_top (into_block b m.top) m))) (sym e) refl);
+        subst (λ (y : Result (Unit {0}) Halt). Gone memory frames state outside t y (go_to m k)) (sym f)
+        (subst (λ (o : Option BasicBlock). Gone memory frames state outside t (Err halts.Unset) (ok_or_else o (outcome unset) >>= λ (b : BasicBlock). ok (with_top (into_block b m.top) m))) (sym e) refl);
+    kept = λ h e. refl;
   }
 
-  pub somewhere : (b : Block) (r : Records) → find k (function_in t.frame).blocks ≡ some (block_in b) → b.sheet.now ≡ t.frame.function.program.sheet.now → RecordsOf b r
+  pub somewhere : (b : Block) (r : Records) → find k (function_in t.frame).blocks ≡ some (block_in b) → b.sheet.now ≡ frame_sheet t.frame → RecordsOf b r
       → Goes t (record { frame = t.frame; block = code.Some r; depth = t.depth }) (Ok tt) (λ (m : Machine ℕ). go_to m k)
   unfolding go_to
   somewhere b r z s W = record {
@@ -102,4 +104,5 @@ module _ {t : UnderWay} (k : ℕ) where
           outside_is = R.outside_is;
           shallow = R.shallow;
         });
+    kept = λ h e. gone_on e;
   }

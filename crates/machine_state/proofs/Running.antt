@@ -23,14 +23,15 @@ pub standing_kept : {memory after : List ℕ} {t : Frame} {block : Option Record
     → ((r : ℕ) → t.base ≤ r → r + cell_width ≤ t.base + bytes_for (function_in t) → cell after r ≡ cell memory r) → StandsFor after t block f
 standing_kept S long h = record { fits = omega (arith, S.fits); function_is = S.function_is; held = not_touched S.held h; block_is = S.block_is }
 
-pub callers_kept : {memory after frames : List ℕ} {d base : ℕ} {ws : List (Waiting ℕ)} → Callers memory frames d base ws → length after ≡ length memory
-    → ((r : ℕ) → r + cell_width ≤ base → cell after r ≡ cell memory r) → Callers after frames d base ws
+pub callers_kept : {sheet memory after frames : List ℕ} {d base : ℕ} {ws : List (Waiting ℕ)} → Callers sheet memory frames d base ws → length after ≡ length memory
+    → ((r : ℕ) → r + cell_width ≤ base → cell after r ≡ cell memory r) → Callers sheet after frames d base ws
 callers_kept nobody long h = nobody
 callers_kept (waits W C) long h =
     let b = W.below in
     waits
     (record {
       frame = W.frame;
+      same_sheet = W.same_sheet;
       block = W.block;
       id = W.id;
       numbers = W.numbers;

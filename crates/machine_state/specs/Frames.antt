@@ -14,7 +14,7 @@ use Rattle.machine_slots.specs.Slots.{value_ids, Among, slot_for}
 use Rattle.machine_state.specs.declared.frame.Frame.{Frame}
 
 abbrev pub function_in : Frame → IrFunction
-function_in t = ir_of t.function
+function_in t = ir_of t.ids.function
 
 abbrev pub ids_in : Frame → List ℕ
 ids_in t = value_ids (function_in t)

@@ -17,11 +17,15 @@ use Rattle.machine_state.specs.declared.under_way.UnderWay.{UnderWay}
 use Rattle.machine_state.specs.declared.halt.Halt.{Halt}
 use Rattle.machine_state.specs.declared.halt.Halt.TheVariants as halts
 
+-- the sheet of the function in a frame
+abbrev pub frame_sheet : Frame → List ℕ
+frame_sheet t = t.ids.function.program.sheet.now
+
 -- what is left of a block of the function in the frame t
 pub record BlockLeft (t : Frame) (r : Records) (b : BasicBlock) : Type 0 where
   pub instrs : b.instrs ≡ instrs_in r
   pub terminator : b.terminator ≡ terminator_in r
-  pub sheet : r.sheet.now ≡ t.function.program.sheet.now
+  pub sheet : r.sheet.now ≡ frame_sheet t
   pub among : (v : ℕ) → Among v (block_results (instrs_in r)) → Among v (ids_in t)
   pub own : write_below (length (function_in t).locals) (instrs_in r) ≡ true
 
@@ -49,10 +53,11 @@ end_in None = 0
 end_in (Some r) = r.end
 
 abbrev pub waiting_numbers : Frame → Option Records → ℕ → List ℕ
-waiting_numbers t block id = t.function.at ∷ place_in block ∷ end_in block ∷ t.base ∷ t.ids.count ∷ t.ids.above ∷ t.locals ∷ id ∷ []
+waiting_numbers t block id = t.ids.function.at ∷ place_in block ∷ end_in block ∷ t.base ∷ t.ids.count ∷ t.ids.above ∷ t.locals ∷ id ∷ []
 
-pub record Waits (memory frames : List ℕ) (p base : ℕ) (w : Waiting ℕ) : Type 0 where
+pub record Waits (sheet memory frames : List ℕ) (p base : ℕ) (w : Waiting ℕ) : Type 0 where
   pub frame : Frame
+  pub same_sheet : frame_sheet frame ≡ sheet
   pub block : Option Records
   pub id : ℕ
   pub numbers : (i : ℕ) → i < 8 → get_or frames (p + i) 0 ≡ get_or (waiting_numbers frame block id) i 0
@@ -62,15 +67,15 @@ pub record Waits (memory frames : List ℕ) (p base : ℕ) (w : Waiting ℕ) : T
   pub small : id < 65536
   pub among : (v : ℕ) → w.result ≡ maths.some v → Among v (ids_in frame)
 
--- those that wait, the nearest first; their frames of memory stand one behind the other, up to `base`
-pub data Callers (memory frames : List ℕ) : ℕ → ℕ → List (Waiting ℕ) → Type 0 where
-  nobody : Callers memory frames 0 0 []
-  waits : {d base : ℕ} {w : Waiting ℕ} {ws : List (Waiting ℕ)} → (W : Waits memory frames (8 * d) base w) → Callers memory frames d W.frame.base ws → Callers memory frames (suc d) base (w ∷ ws)
+-- those that wait, the nearest first, functions of one sheet; their frames of memory stand one behind the other, up to `base`
+pub data Callers (sheet memory frames : List ℕ) : ℕ → ℕ → List (Waiting ℕ) → Type 0 where
+  nobody : Callers sheet memory frames 0 0 []
+  waits : {d base : ℕ} {w : Waiting ℕ} {ws : List (Waiting ℕ)} → (W : Waits sheet memory frames (8 * d) base w) → Callers sheet memory frames d W.frame.base ws → Callers sheet memory frames (suc d) base (w ∷ ws)
 
 -- `outside` are the outside results that are left
 pub record Running (memory frames state outside : List ℕ) (t : UnderWay) (m : Machine ℕ) : Type 0 where
   pub top : StandsFor memory t.frame t.block m.top
-  pub callers : Callers memory frames t.depth t.frame.base m.callers
+  pub callers : Callers (frame_sheet t.frame) memory frames t.depth t.frame.base m.callers
   pub state_is : m.state ≡ state
   pub outside_is : m.outside ≡ outside
   pub shallow : t.depth ≤ 15
@@ -95,30 +100,34 @@ Gone memory frames state outside t (Ok x) (defs.err e) = ⊥
 Gone memory frames state outside t (Err h) (defs.ok m) = ⊥
 Gone memory frames state outside t (Err h) (defs.err e) = halt_of h ≡ e
 
--- A CHANGE OF PLACE, for every machine that the code stands for: memory stays
+-- A CHANGE OF PLACE, for every machine that the code stands for: memory stays; where the run stops, the place stays too
 pub record Goes (t after : UnderWay) (r : Result (Unit {0}) Halt) (next : Machine ℕ → defs.Result (Stop ℕ) (Machine ℕ)) : Type 0 where
   pub run : (memory frames state outside : List ℕ) (m : Machine ℕ) → Running memory frames state outside t m → Gone memory frames state outside after r (next m)
+  pub kept : (h : Halt) → r ≡ Err h → after ≡ t
 
 -- a terminator, over this memory
 pub record Ends (memory : List ℕ) (t after : UnderWay) (i : Terminator) (r : Result (Unit {0}) Halt) : Type 0 where
   pub run : (frames state outside : List ℕ) (m : Machine ℕ) → Running memory frames state outside t m → Gone memory frames state outside after r (step_terminator plain_words m i)
+  pub kept : (h : Halt) → r ≡ Err h → after ≡ t
 
 -- AN INSTRUCTION, behind which the block has been moved: it leaves the place. The code's answer is the machine's, whatever waits, whatever the state words,
--- the outside results and what is lent
+-- the outside results and what is lent; where the run stops, memory is as before
 abbrev pub at : Frame → Option Records → ℕ → UnderWay
 at t block depth = record { frame = t; block = block; depth = depth }
 
 pub record Does (t : Frame) (before after : List ℕ) (o : maths.Option ℕ) (i : Instruction) (r : Result (Unit {0}) Halt) : Type 0 where
   pub run : (lent : Lent) (frames state outside : List ℕ) (block : Option Records) (depth : ℕ) (m : Machine ℕ) → Running before frames state outside (at t block depth) m
       → Gone after frames state outside (at t block depth) r (step_instr plain_words lent m o i)
+  pub kept : (h : Halt) → r ≡ Err h → after ≡ before
 
--- the same with these state words before and after: where the run stops, they are as before
+-- the same with these state words before and after
 pub record DoesState (t : Frame) (before after state words : List ℕ) (o : maths.Option ℕ) (i : Instruction) (r : Result (Unit {0}) Halt) : Type 0 where
   pub run : (lent : Lent) (frames outside : List ℕ) (block : Option Records) (depth : ℕ) (m : Machine ℕ) → Running before frames state outside (at t block depth) m
       → Gone after frames words outside (at t block depth) r (step_instr plain_words lent m o i)
-  pub kept : (h : Halt) → r ≡ Err h → words ≡ state
+  pub kept : (h : Halt) → r ≡ Err h → (after ≡ before) × (words ≡ state)
 
 -- the same with these outside results before and after
 pub record DoesOutside (t : Frame) (before after outside rest : List ℕ) (o : maths.Option ℕ) (i : Instruction) (r : Result (Unit {0}) Halt) : Type 0 where
   pub run : (lent : Lent) (frames state : List ℕ) (block : Option Records) (depth : ℕ) (m : Machine ℕ) → Running before frames state outside (at t block depth) m
       → Gone after frames state rest (at t block depth) r (step_instr plain_words lent m o i)
+  pub kept : (h : Halt) → r ≡ Err h → (after ≡ before) × (rest ≡ outside)

@@ -2,26 +2,22 @@
 ghost use Rattle.std.specs.Prelude.{◌≡◌, ◌+◌, ◌^◌, ◌<◌, true, length};
 ghost use Rattle.definitions.specs.Bench.{bytes_for};
 ghost use Rattle.program_nodes.specs.Nodes.{ir_of};
-ghost use Rattle.machine_slots.specs.Slots.{value_ids, counted};
 ghost use Rattle.machine_state.specs.Owned.{writes_own};
 
 use ir::{LocalId, ValueId};
 use machine_memory::CELL;
-use machine_slots::{Ids, slot_of};
-use program_nodes::Function;
+use machine_slots::Ids;
 
-// The function, where its cells start, its ids, and how many locals it has. The memory stays an argument of its own: in here it would be a `&mut`, of which
+// A function's ids, where its cells start, and how many locals it has. The memory stays an argument of its own: in here it would be a `&mut`, of which
 // each contract had to say that it is still the same one.
 #[derive(Clone, Copy, Debug)]
 pub struct Frame<'a> {
-    pub function: Function<'a>,
+    pub ids: Ids<'a>,
     pub base: usize,
-    pub ids: Ids,
     pub locals: usize,
-    pub ghost ids_are: { ids ≡ counted (value_ids (ir_of function)) },
-    pub ghost locals_are: { locals ≡ length (ir_of function).locals },
-    pub ghost end: { base + bytes_for (ir_of function) < 2 ^ 64 },
-    pub ghost own: { writes_own (ir_of function) ≡ true },
+    pub ghost locals_are: { locals ≡ length (ir_of ids.function).locals },
+    pub ghost end: { base + bytes_for (ir_of ids.function) < 2 ^ 64 },
+    pub ghost own: { writes_own (ir_of ids.function) ≡ true },
 }
 
 impl Frame<'_> {
@@ -33,7 +29,7 @@ impl Frame<'_> {
     fn value_cell(&self, v: ValueId) -> Option<usize>
         ensures { word_of result ≡ value_place self.now v.0 }
     {
-        let slot = slot_of(self.function, self.ids, v)?;
+        let slot = self.ids.slot_of(v)?;
         Some(self.base + CELL * slot)
     }
 

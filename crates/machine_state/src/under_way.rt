@@ -21,7 +21,7 @@ impl UnderWay<'_> {
     pub fn go_to(&mut self, b: BlockId) -> Result<(), Halt>
         ensures { Goes self.old self.new result (λ (m : Machine ℕ). go_to m b.0) }
     {
-        let block = verify_lookup::find_block(self.frame.function, b).ok_or(Halt::Unset)?;
+        let block = verify_lookup::find_block(self.frame.ids.function, b).ok_or(Halt::Unset)?;
         self.block = Some(block.records());
         Ok(())
     }

@@ -23,7 +23,7 @@ use Rattle.machine_state.specs.declared.under_way.UnderWay.{UnderWay}
 use Rattle.machine_state.specs.declared.halt.Halt.{Halt}
 use Rattle.machine_state.specs.declared.halt.Halt.TheVariants as halts
 use Rattle.machine_state.proofs.Running.{wrote, value_some, value_none, local_some, local_none}
-use Rattle.machine_state.proofs.Asking.{found, lacking, found_then, lacking_then, result}
+use Rattle.machine_state.proofs.Asking.{gone_on, found, lacking, found_then, lacking_then, result}
 
 abbrev Answer : Type 0
 Answer = Result (Unit {0}) Halt
@@ -32,13 +32,14 @@ Answer = Result (Unit {0}) Halt
 module _ {t : Frame} {before after : List ℕ} {o : maths.Option ℕ} {w room : ℕ} (G : Given room t o) (small : w < 2 ^ 64) (g : after ≡ given before t o w) where
   pub const_does : (ty : IrType) → Does t before after o (Instruction.Const ty w) (Ok tt)
   unfolding step_instr
-  const_does ty = record { run = λ lent frames state outside block depth m R. result R G small g }
+  const_does ty = record { run = λ lent frames state outside block depth m R. result R G small g; kept = λ h e. gone_on e }
 
   -- READLOCAL
   pub read_local_does : {l : ℕ} {x : Option ℕ} → word_of x ≡ local_word before t l → x ≡ Some w → (ty : IrType) → Does t before after o (Instruction.ReadLocal l ty) (Ok tt)
   unfolding step_instr
   read_local_does {l} e z ty = record {
     run = λ lent frames state outside block depth m R. found (Gone after frames state outside (at t block depth) (Ok tt)) (λ (a : ℕ). defs.ok (give_result o a m)) (local_some R l e z) (result R G small g);
+    kept = λ h e. gone_on e;
   }
 
 module _ {t : Frame} {memory : List ℕ} {r : Answer} (h : r ≡ Err halts.Unset) where
@@ -48,6 +49,7 @@ module _ {t : Frame} {memory : List ℕ} {r : Answer} (h : r ≡ Err halts.Unset
     run = λ lent frames state outside block depth m R.
         subst (λ (y : Answer). Gone memory frames state outside (at t block depth) y (step_instr plain_words lent m o (Instruction.ReadLocal l ty))) (sym h)
         (lacking (Gone memory frames state outside (at t block depth) (Err halts.Unset)) (λ (a : ℕ). defs.ok (give_result o a m)) (local_none R l e z) refl);
+    kept = λ h e. refl;
   }
 
   module _ {v : ℕ} {x : Option ℕ} (e : word_of x ≡ value_word memory t v) (z : x ≡ None) where
@@ -57,6 +59,7 @@ module _ {t : Frame} {memory : List ℕ} {r : Answer} (h : r ≡ Err halts.Unset
       run = λ lent frames state outside block depth m R.
           subst (λ (y : Answer). Gone memory frames state outside (at t block depth) y (step_instr plain_words lent m o (Instruction.WriteLocal l v))) (sym h)
           (lacking (Gone memory frames state outside (at t block depth) (Err halts.Unset)) (λ (a : ℕ). defs.ok (with_top (note_local l a m.top) m)) (value_none R v e z) refl);
+      kept = λ h e. refl;
     }
 
     pub assert_lacks : (o : maths.Option ℕ) → Does t memory memory o (Instruction.Assert v) r
@@ -65,6 +68,7 @@ module _ {t : Frame} {memory : List ℕ} {r : Answer} (h : r ≡ Err halts.Unset
       run = λ lent frames state outside block depth m R.
           subst (λ (y : Answer). Gone memory frames state outside (at t block depth) y (step_instr plain_words lent m o (Instruction.Assert v))) (sym h)
           (lacking_then (Gone memory frames state outside (at t block depth) (Err halts.Unset)) (defs.ok m) (value_none R v e z) refl);
+      kept = λ h e. refl;
     }
 
 -- WRITELOCAL, ASSERT
@@ -76,12 +80,14 @@ module _ {t : Frame} {memory : List ℕ} {v w : ℕ} {x : Option ℕ} (e : word_
     run = λ lent frames state outside block depth m R.
         found (Gone after frames state outside (at t block depth) (Ok tt)) (λ (a : ℕ). defs.ok (with_top (note_local l a m.top) m)) (value_some R v e z)
         (rw g (wrote R l w small low));
+    kept = λ h e. gone_on e;
   }
 
   pub assert_passes : (o : maths.Option ℕ) → Does t memory memory o (Instruction.Assert v) (Ok tt)
   unfolding step_instr
   assert_passes o = record {
     run = λ lent frames state outside block depth m R. found_then (Gone memory frames state outside (at t block depth) (Ok tt)) (defs.ok m) (value_some R v e z) R;
+    kept = λ h e. gone_on e;
   }
 
 -- BINARY
@@ -98,6 +104,7 @@ module _ {t : Frame} {before : List ℕ} {op : BinOp} {o : maths.Option ℕ} {l 
     run = λ lent frames state outside block depth m R.
         subst (λ (y : Answer). Gone before frames state outside (at t block depth) y (step_instr plain_words lent m o (Instruction.Binary op ty l rhs))) (sym h)
         (lacking (Gone before frames state outside (at t block depth) (Err halts.Unset)) (binary_second op o m rhs) (value_none R l e z) refl);
+    kept = λ h e. refl;
   }
 
   module _ {a rhs : ℕ} (z : x ≡ Some a) {y : Option ℕ} (f : word_of y ≡ value_word before t rhs) where
@@ -108,6 +115,7 @@ module _ {t : Frame} {before : List ℕ} {op : BinOp} {o : maths.Option ℕ} {l 
           subst (λ (y : Answer). Gone before frames state outside (at t block depth) y (step_instr plain_words lent m o (Instruction.Binary op ty l rhs))) (sym h)
           (found (Gone before frames state outside (at t block depth) (Err halts.Unset)) (binary_second op o m rhs) (value_some R l e z)
           (lacking (Gone before frames state outside (at t block depth) (Err halts.Unset)) (binary_rest op o m a) (value_none R rhs f u) refl));
+      kept = λ h e. refl;
     }
 
     module _ {b : ℕ} (u : y ≡ Some b) {n : Result ℕ ZeroDivisor} (q : word_or_stop n ≡ binary_word op a b) where
@@ -119,6 +127,7 @@ module _ {t : Frame} {before : List ℕ} {op : BinOp} {o : maths.Option ℕ} {l 
             (found (Gone before frames state outside (at t block depth) (Err halts.ZeroDivisor)) (binary_second op o m rhs) (value_some R l e z)
             (found (Gone before frames state outside (at t block depth) (Err halts.ZeroDivisor)) (binary_rest op o m a) (value_some R rhs f u)
             (subst (λ (w : defs.Result (Stop ℕ) ℕ). Gone before frames state outside (at t block depth) (Err halts.ZeroDivisor) (w >>= λ (n : ℕ). defs.ok (give_result o n m))) (ap word_or_stop (sym i) ∙ q) refl)));
+        kept = λ h e. refl;
       }
 
       pub binary_does : {after : List ℕ} {w room : ℕ} → n ≡ Ok w → Given room t o → w < 2 ^ 64 → after ≡ given before t o w → (ty : IrType) → Does t before after o (Instruction.Binary op ty l rhs) (Ok tt)
@@ -128,6 +137,7 @@ module _ {t : Frame} {before : List ℕ} {op : BinOp} {o : maths.Option ℕ} {l 
             found (Gone after frames state outside (at t block depth) (Ok tt)) (binary_second op o m rhs) (value_some R l e z)
             (found (Gone after frames state outside (at t block depth) (Ok tt)) (binary_rest op o m a) (value_some R rhs f u)
             (subst (λ (w : defs.Result (Stop ℕ) ℕ). Gone after frames state outside (at t block depth) (Ok tt) (w >>= λ (n : ℕ). defs.ok (give_result o n m))) (ap word_or_stop (sym i) ∙ q) (result R G small g)));
+        kept = λ h e. gone_on e;
       }
 
 -- TERMINATORS
@@ -135,12 +145,13 @@ abbrev chosen : ℕ → ℕ → ℕ → ℕ
 chosen a x y = elim (eqb a 0) [ true ↦ y | false ↦ x ]
 
 module _ {t : UnderWay} {memory : List ℕ} {v : ℕ} {x : Option ℕ} (e : word_of x ≡ value_word memory t.frame v) where
-  pub branch_lacks : {r : Answer} (after : UnderWay) (b c : ℕ) → x ≡ None → r ≡ Err halts.Unset → Ends memory t after (Terminator.Branch v b c) r
+  pub branch_lacks : {r : Answer} (b c : ℕ) → x ≡ None → r ≡ Err halts.Unset → Ends memory t t (Terminator.Branch v b c) r
   unfolding step_terminator
-  branch_lacks after b c z h = record {
+  branch_lacks b c z h = record {
     run = λ frames state outside m R.
-        subst (λ (y : Answer). Gone memory frames state outside after y (step_terminator plain_words m (Terminator.Branch v b c))) (sym h)
-        (lacking (Gone memory frames state outside after (Err halts.Unset)) (λ (a : ℕ). go_to m (chosen a b c)) (value_none R v e z) refl);
+        subst (λ (y : Answer). Gone memory frames state outside t y (step_terminator plain_words m (Terminator.Branch v b c))) (sym h)
+        (lacking (Gone memory frames state outside t (Err halts.Unset)) (λ (a : ℕ). go_to m (chosen a b c)) (value_none R v e z) refl);
+    kept = λ h e. refl;
   }
 
   module _ {w : ℕ} {after : UnderWay} {r : Answer} (z : x ≡ Some w) where
@@ -150,6 +161,7 @@ module _ {t : UnderWay} {memory : List ℕ} {v : ℕ} {x : Option ℕ} (e : word
       run = λ frames state outside m R.
           found (Gone memory frames state outside after r) (λ (a : ℕ). go_to m (chosen a b c)) (value_some R v e z)
           (subst (λ (k : ℕ). Gone memory frames state outside after r (go_to m k)) i (G.run memory frames state outside m R));
+      kept = G.kept;
     }
 
     pub branch_else_lem : (b c : ℕ) → w ≡ 0 → Goes t after r (λ (m : Machine ℕ). go_to m c) → Ends memory t after (Terminator.Branch v b c) r
@@ -160,8 +172,8 @@ module _ {t : UnderWay} {memory : List ℕ} {v : ℕ} {x : Option ℕ} (e : word
 
 pub jump_goes : {t after : UnderWay} {k : ℕ} {r : Answer} → Goes t after r (λ (m : Machine ℕ). go_to m k) → (memory : List ℕ) → Ends memory t after (Terminator.Jump k) r
 unfolding step_terminator
-jump_goes G memory = record { run = λ frames state outside m R. G.run memory frames state outside m R }
+jump_goes G memory = record { run = λ frames state outside m R. G.run memory frames state outside m R; kept = G.kept }
 
 pub unreachable_ends : (memory : List ℕ) (t : UnderWay) → Ends memory t t Terminator.Unreachable (Err halts.Unreachable)
 unfolding step_terminator
-unreachable_ends memory t = record { run = λ frames state outside m R. refl }
+unreachable_ends memory t = record { run = λ frames state outside m R. refl; kept = λ h e. refl }

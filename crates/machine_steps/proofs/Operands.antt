@@ -68,8 +68,8 @@ unfolding value_words
 asked_all old new A T s =
     A.goes (Ok tt) (record {
       run = λ frames state outside block depth m R.
-          let z : ids_in old ≡ [] = subst (TakesId old new) s T in
-          subst (λ (l : List ℕ). AreThere (Ok tt) (value_words m l)) (sym z) tt;
+          let z : (ids_in old ≡ []) × (new ≡ old) = subst (TakesId old new) s T in
+          subst (λ (l : List ℕ). AreThere (Ok tt) (value_words m l)) (sym z.0) tt;
     })
 
 -- EMIT
@@ -84,4 +84,5 @@ pub emits : {t : Frame} {memory vs : List ℕ} {r : Answer} → AllAsked t memor
 unfolding step_instr
 emits {t} {memory} {vs} {r} A o event = record {
   run = λ lent frames state outside block depth m R. passes memory frames state outside (at t block depth) m r (value_words m vs) R (A.run frames state outside block depth m R);
+  kept = λ h e. refl;
 }

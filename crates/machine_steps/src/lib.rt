@@ -89,8 +89,7 @@ pub fn all_set(frame: &Frame, memory: &[u8], values: Ids) -> Result<(), Halt>
     requires { Fits (length memory.now) frame.now }
     ensures { AllAsked frame.now memory.now (ids_in values.entry) result }
 {
-    let mut left = values;
-    while let Some(v) = left.next() {
+    for v in values {
         let _word = frame.value(memory, v).ok_or(Halt::Unset)?;
     }
     Ok(())

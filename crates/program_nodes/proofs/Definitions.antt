@@ -1,25 +1,23 @@
 -- The definitions of a function's values: how a search meets them, and what stands at their places. Assumes nothing.
-use mathlib.Core.Path.{◌≡◌, refl, ap, ap₂, sym, ◌∙◌, subst}
-use mathlib.Core.Logic.{◌⊎◌, inl, inr}
+use mathlib.Core.Path.{◌≡◌, refl, ap, ap₂, ◌∙◌, subst}
 use mathlib.Core.Bool.{Bool, true, false}
 use mathlib.Core.List.{List, [], ◌∷◌, ◌++◌, map}
 use mathlib.Core.Option.{Option, none, some}
-use Prim.Native.Nat.{ℕ, zero, suc, ◌+◌, ◌-◌, ◌*◌, ◌≤◌, ◌<◌}
+use Prim.Native.Nat.{ℕ, zero, suc, ◌+◌, ◌-◌, ◌<◌}
 use native.Mathlib.Nat.{not-suc-le-zero}
 use native.Mathlib.Numerals.{sub-one}
 use native.Mathlib.Omega.{arith}
-use lib.Dec.{leb, eqb}
-use lib.ListN.{length}
-use borrow.Author.Tests.{eqb-true, eqb-false, eq-eqb, ne_eqb, le-leb, lt-leb, leb-true}
+use lib.Dec.{eqb}
+use borrow.Author.Tests.{eqb-true, le-leb, lt-leb}
 use Rattle.definitions.specs.All.{All, anil, acons}
 use Rattle.definitions.specs.Fields.{le}
-use Rattle.definitions.specs.Ir.{IrType, Instruction, result_type}
+use Rattle.definitions.specs.Ir.{IrType, Instruction}
 use Rattle.definitions.specs.Grammar.{value_and_type}
-use Rattle.definitions.specs.Records.{pick, Item, ok_item, ok_items, opt_from, number_of, type_of, read_item, read_items, size_of, read_records}
-use Rattle.definitions.proofs.Sheets.Passed.{read_end, both_true}
-use Rattle.program_nodes.specs.Offsets.{param_count_at, first_param_at, records_at, fields_at}
-use Rattle.program_nodes.specs.Positions.{type_here, TypeAt, kind_here, stop_here, instr_here, InstrPlace, BlockFrom, BlocksFrom, params_here, FunctionHere}
-use Rattle.program_nodes.specs.Definitions.{Definition, param_definitions, result_definition, block_definitions, blocks_definitions, first_definition}
+use Rattle.definitions.specs.Records.{pick, Item, opt_from, number_of, type_of, read_item, read_items, size_of, read_records}
+use Rattle.definitions.proofs.Sheets.Passed.{read_end}
+use Rattle.program_nodes.specs.Offsets.{records_at, fields_at}
+use Rattle.program_nodes.specs.Positions.{type_here, kind_here, instr_here}
+use Rattle.program_nodes.specs.Definitions.{Definition, result_definition, block_definitions, blocks_definitions, first_definition}
 use Rattle.program_nodes.proofs.Walk.{InstrStep, TermStep, BlockStep}
 
 -- LISTS OF DEFINITIONS

@@ -2,7 +2,7 @@
 use mathlib.Core.Path.{◌≡◌, refl, ap, sym}
 use mathlib.Core.Bool.{true}
 use mathlib.Core.Option.{Option, some}
-use Prim.Native.Nat.{ℕ, ◌+◌, ◌≤◌}
+use Prim.Native.Nat.{◌+◌, ◌≤◌}
 use native.Mathlib.Omega.{arith}
 use lib.ListN.{length}
 use borrow.Author.Tests.{leb-true}
@@ -30,7 +30,7 @@ use Rattle.program_nodes.specs.declared.instr.Instr.{Instr}
 use Rattle.program_nodes.specs.declared.term.Term.{Term}
 use Rattle.program_nodes.proofs.Stand.{kept}
 use Rattle.program_nodes.proofs.KindNumbers.{IsBinary, binary_size}
-use Rattle.program_nodes.proofs.Walk.{head_fits, instr_alone, term_alone}
+use Rattle.program_nodes.proofs.Walk.{instr_alone, term_alone}
 use Rattle.program_nodes.proofs.FunctionSteps.{ProgramAt, program_at, function_here_is}
 
 pub program_is : (p : Program) → ProgramAt p.sheet.now
@@ -52,19 +52,19 @@ instr_fits i e = let I = instr_to i in rw (← e) (I.room, I.inside)
 pub term_fits : (t : Term) {k : TermKind} → t.kind ≡ k → t.at + term_size (term_number k) ≤ length t.sheet.now
 term_fits t e = rw (← e) (term_place t).fits
 
-pub instr_result_fits : (i : Instr) → i.at + own_at ≤ length i.sheet.now
-instr_result_fits i = head_fits (instr_to i).place
+pub instr_result_fits : (i : Instr) → i.at + own_at ≤ i.stop
+instr_result_fits i = omega (arith, (instr_to i).room)
 
-pub binary_fits : (i : Instr) → IsBinary i.kind → i.at + (right_at + 2) ≤ length i.sheet.now
-binary_fits i b = let I = instr_to i in let e = binary_size i.kind b in omega (arith, I.room, I.inside, e)
+pub binary_fits : (i : Instr) → IsBinary i.kind → i.at + (right_at + 2) ≤ i.stop
+binary_fits i b = let I = instr_to i in let e = binary_size i.kind b in omega (arith, I.room, e)
 
 pub context_low : (i : Instr) → i.kind ≡ instr.ContextRead → le 2 i.sheet.now (i.at + own_at) ≤ 2
 context_low i e = let C = (instr_to i).place.context in leb-true _ _ (C (rw e refl))
 
 -- THE TYPE of an instruction's result, by its rule
 module _ (i : Instr) where
-  pub own_type_fits : has_type (instr_number i.kind) ≡ true → i.at + type_offset (instr_number i.kind) + 4 ≤ length i.sheet.now
-  own_type_fits h = let I = instr_to i in omega (arith, type_fits (instr_number i.kind) I.place.rules h, I.place.fits)
+  pub own_type_fits : has_type (instr_number i.kind) ≡ true → i.at + type_offset (instr_number i.kind) + 4 ≤ i.stop
+  own_type_fits h = let I = instr_to i in omega (arith, type_fits (instr_number i.kind) I.place.rules h, I.room)
 
   module _ {o : Option ResultRule} (e : o ≡ rule_in (kind_row (instr_number i.kind))) where
     pub has_own_type : own_rule o ≡ true → has_type (instr_number i.kind) ≡ true

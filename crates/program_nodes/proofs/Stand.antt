@@ -1,19 +1,15 @@
 -- A check that passed, as an equation and as a proof tree. Assumes nothing.
 use mathlib.Core.Path.{◌≡◌, refl}
-use mathlib.Core.Bool.{true}
 use mathlib.Core.List.{List}
 use Prim.Native.Nat.{ℕ, zero, suc, ◌+◌, ◌-◌, ◌≤◌, ◌<◌}
 use native.Mathlib.Nat.{not-suc-le-zero}
 use native.Mathlib.Omega.{arith}
-use lib.Dec.{leb, eqb}
-use lib.ListN.{length}
 use borrow.Author.Tests.{eq-eqb, ne_eqb, le-leb}
 use Rattle.definitions.specs.Fields.{le}
-use Rattle.definitions.specs.Grammar.{Class, class_no, Field, Pattern, done, one, rows}
-use Rattle.definitions.specs.Records.{Good, after, and_then, check_records, check_rest, left, may_end, past_all, records_from, row_in, start_at, start_if, start_row, starts}
+use Rattle.definitions.specs.Grammar.{Class, Field, Pattern, done, one}
+use Rattle.definitions.specs.Records.{Good, after, and_then, check_records, check_rest, left, may_end, records_from, start_at, start_if, start_row, starts}
 use Rattle.definitions.specs.Fine.{Head, Fine, ends, goes}
 use Rattle.definitions.proofs.Sheets.Passed.{fine}
-use Rattle.program_nodes.specs.Standing.{Stand}
 
 started : {s : List ℕ} {at end b stop : ℕ} (q : Pattern) {r p : Pattern} {c : Class} {fs : List Field} → Head s at end c fs p b stop → after q c ≡ left r → start_at s at end q ≡ starts b stop p r
 unfolding start_at start_row start_if

@@ -1,7 +1,7 @@
 -- The first of a list of nodes is taken. Assumes nothing.
 use mathlib.Core.Path.{◌≡◌, refl, ap, sym, ◌∙◌}
 use mathlib.Core.List.{List, [], ◌∷◌}
-use Prim.Native.Nat.{ℕ, zero, suc, ◌+◌, ◌-◌, ◌≤◌, ◌<◌}
+use Prim.Native.Nat.{ℕ, zero, suc, ◌+◌, ◌-◌, ◌<◌}
 use native.Mathlib.Numerals.{sub-one}
 use native.Mathlib.Omega.{arith}
 use lib.ListN.{length}
@@ -81,6 +81,7 @@ first_function h s a fi st ns na =
     let F = function_here_lem h in
     record {
       is = rw (s, a, fi, st, ns, na) F.read;
+      at = a;
       sheet = s;
       rest_sheet = ns;
       less = omega (arith, F.low, low F.blocks, na);

@@ -136,6 +136,9 @@ at_record f = at_instruction (many_step Class.instruction (perhaps Class.termina
 pub record_fits : {s : List ℕ} {q end : ℕ} → BlockFrom s q end → q < end → q + head_width ≤ end
 record_fits f l = elim (at_record f) [ at_end e ↦ absurd (omega arith) | at_instr I ↦ omega (arith, I.low, I.high) | at_term T ↦ T.low ]
 
+pub record_long : {s : List ℕ} {q end : ℕ} → BlockFrom s q end → q < end → q < stop_here s q
+record_long f l = elim (at_record f) [ at_end e ↦ absurd (omega arith) | at_instr I ↦ omega (arith, I.low) | at_term T ↦ omega (arith, T.stop_is) ]
+
 pub instr_here_lem : {s : List ℕ} {q end : ℕ} → BlockFrom s q end → q < end → kind_here s q ≤ 81 → InstrStep s q end (stop_here s q)
 instr_here_lem f l k = elim (at_record f) [ at_end e ↦ absurd (omega arith) | at_instr I ↦ I | at_term T ↦ absurd (omega (arith, T.at.low)) ]
 

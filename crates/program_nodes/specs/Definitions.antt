@@ -2,7 +2,7 @@
 use Rattle.std.specs.Prelude.{ℕ, ◌+◌, Bool, false, List, [], ◌∷◌, ◌++◌, leb, eqb}
 use Rattle.std.proofs.Math.Option.{Option, none, some}
 use Rattle.definitions.specs.Ir.{IrType, Instruction, result_type}
-use Rattle.definitions.specs.Records.{pick, Tree, node, Trees, tnil, tcons, read_records}
+use Rattle.definitions.specs.Records.{pick, Tree, node, Trees, tnil, tcons}
 use Rattle.definitions.specs.ProgramSheet.{instr_node_of}
 
 -- a value's definition: the place of its parameter or of its instruction's record

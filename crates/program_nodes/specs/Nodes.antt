@@ -1,5 +1,5 @@
 -- What the nodes stand for: the program of the definitions. Assumes nothing: these are definitions.
-use Rattle.std.specs.Prelude.{ℕ, suc, ◌+◌, ◌≤◌, ◌<◌, ◌≡◌, List, [], ◌∷◌, ◌++◌, map, length, Option, None, Some, Result, Ok, Err}
+use Rattle.std.specs.Prelude.{ℕ, suc, ◌+◌, ◌≤◌, ◌<◌, ◌≡◌, Bool, true, false, List, [], ◌∷◌, ◌++◌, map, length, Option, None, Some, Result, Ok, Err}
 use Rattle.std.proofs.Math.Option as maths
 use Rattle.definitions.specs.Fields.{le}
 use Rattle.definitions.specs.Ir as ir
@@ -7,6 +7,8 @@ use Rattle.definitions.specs.Grammar.{value_and_type}
 use Rattle.definitions.specs.Records.{Item, Form, Good, Bad, opt_from, number_of, type_of, read_items, read_records}
 use Rattle.definitions.specs.ProgramSheet.{binary_of}
 use Rattle.format.specs.Kinds.{instr_number, term_number}
+use Rattle.format.specs.declared.kinds.Instruction as kinds
+use Rattle.format.specs.declared.kinds.Instruction.TheVariants as kind
 use Rattle.format.specs.Contexts.{context_number}
 use Rattle.ir.specs.Types.{as_type}
 use Rattle.ir.specs.Answers.{option_of}
@@ -15,7 +17,7 @@ use Rattle.sheet.specs.declared.errors.Malformed.{Malformed}
 use Rattle.program_nodes.specs.Offsets.{first_param_at, records_at, fields_at}
 use Rattle.program_nodes.specs.Positions as places
 use Rattle.program_nodes.specs.Positions.{type_here, ids_here, instr_here, term_here, instrs_here, terminator_here, block_here, blocks_here, functions_here, function_here}
-use Rattle.program_nodes.specs.Definitions.{Definition, param_definition, param_definitions, instr_definition, result_definition, block_definitions, blocks_definitions}
+use Rattle.program_nodes.specs.Definitions.{Definition, param_definition, param_definitions, result_definition, block_definitions, blocks_definitions}
 use Rattle.program_nodes.specs.declared.program.Program.{Program}
 use Rattle.program_nodes.specs.declared.program.Functions.{Functions}
 use Rattle.program_nodes.specs.declared.program.Function.{Function}
@@ -91,6 +93,31 @@ term_in t = term_here (term_number t.kind) t.sheet.now t.at
 abbrev pub ids_in : Ids → List ℕ
 ids_in w = ids_here w.left w.sheet.now w.at
 
+-- the kinds of instructions that reach beyond values
+abbrev pub is_access : kinds.Instruction → Bool
+is_access kind.Load = true
+is_access kind.Store = true
+is_access kind.StateRead = true
+is_access kind.StateWrite = true
+is_access kind.ReadLocal = true
+is_access kind.WriteLocal = true
+is_access kind.Call = true
+is_access kind.ContextRead = true
+is_access kind.Const = false
+is_access kind.Add = false
+is_access kind.Sub = false
+is_access kind.Mul = false
+is_access kind.Div = false
+is_access kind.Eq = false
+is_access kind.Ne = false
+is_access kind.Lt = false
+is_access kind.Le = false
+is_access kind.Gt = false
+is_access kind.Ge = false
+is_access kind.Assert = false
+is_access kind.Poseidon = false
+is_access kind.Emit = false
+
 -- WHAT THEY ARE
 abbrev pub instr_is : Instruction → ir.Instruction
 instr_is (instr.Const t n) = ir.Instruction.Const (as_type t) n
@@ -156,16 +183,17 @@ pub record RecordsOf (b : Block) (w : Records) : Type 0 where
   pub definitions : block_definitions_in w ≡ block_definitions_of b
   pub sheet : w.sheet.now ≡ b.sheet.now
 
--- THE FIRST OF A LIST is taken: a function
+-- THE FIRST OF A LIST is taken, or there is none and the list stays: a function
 pub record FirstFunction (old new : Functions) (f : Function) : Type 0 where
   pub is : functions_in old ≡ ir_of f ∷ functions_in new
+  pub at : f.at ≡ old.at
   pub sheet : f.program.sheet.now ≡ old.program.sheet.now
   pub rest_sheet : new.program.sheet.now ≡ old.program.sheet.now
   pub less : old.at < new.at
   pub within : new.at ≤ length new.program.sheet.now
 
 abbrev pub TakesFunction : (old new : Functions) → Option Function → Type 0
-TakesFunction old new None = functions_in old ≡ []
+TakesFunction old new None = (functions_in old ≡ []) × (new ≡ old)
 TakesFunction old new (Some f) = FirstFunction old new f
 
 -- a parameter
@@ -177,7 +205,7 @@ pub record FirstParam (old new : Params) (p : Param) : Type 0 where
   pub less : suc new.left ≡ old.left
 
 abbrev pub TakesParam : (old new : Params) → Option Param → Type 0
-TakesParam old new None = params_in old ≡ []
+TakesParam old new None = (params_in old ≡ []) × (new ≡ old)
 TakesParam old new (Some p) = FirstParam old new p
 
 -- a block
@@ -191,7 +219,7 @@ pub record FirstBlock (old new : Blocks) (b : Block) : Type 0 where
   pub within : new.at ≤ new.end
 
 abbrev pub TakesBlock : (old new : Blocks) → Option Block → Type 0
-TakesBlock old new None = (blocks_in old ≡ []) × (blocks_definitions_in old ≡ [])
+TakesBlock old new None = (blocks_in old ≡ []) × (blocks_definitions_in old ≡ []) × (new ≡ old)
 TakesBlock old new (Some b) = FirstBlock old new b
 
 -- a record: an instruction, or the terminator, after which nothing is left
@@ -217,7 +245,7 @@ pub record NoRecord (old : Records) : Type 0 where
   pub definitions : block_definitions_in old ≡ []
 
 abbrev pub TakesRecord : (old new : Records) → Option Record → Type 0
-TakesRecord old new None = NoRecord old
+TakesRecord old new None = NoRecord old × (new ≡ old)
 TakesRecord old new (Some (record'.Instr i)) = FirstInstr old new i
 TakesRecord old new (Some (record'.Term t)) = FirstTerm old t
 
@@ -227,5 +255,5 @@ pub record FirstId (old new : Ids) (v : ValueId) : Type 0 where
   pub less : suc new.left ≡ old.left
 
 abbrev pub TakesId : (old new : Ids) → Option ValueId → Type 0
-TakesId old new None = ids_in old ≡ []
+TakesId old new None = (ids_in old ≡ []) × (new ≡ old)
 TakesId old new (Some v) = FirstId old new v

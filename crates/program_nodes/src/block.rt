@@ -1,4 +1,5 @@
 // Blocks and their records.
+ghost use Rattle.std.specs.Prelude.{◌≡◌, ◌-◌};
 ghost use Rattle.program_nodes.specs.Standing.{BlocksStand, BlockStands, RecordsStand};
 
 use crate::instr::Instr;
@@ -42,13 +43,17 @@ pub enum Record<'a> {
     Term(Term<'a>),
 }
 
-impl<'a> Blocks<'a> {
+impl<'a> Iterator for Blocks<'a> {
+    type Item = Block<'a>;
+
+    ghost use Rattle.std.specs.Iterator.{at_most};
     ghost use Rattle.program_nodes.specs.Nodes.{TakesBlock};
 
-    // Takes the first of them.
-    pub fn next(&mut self) -> Option<Block<'a>>
-        ensures { TakesBlock self.old self.new result }
-    {
+    ghost next_gives = { λ old block new. TakesBlock old new block };
+
+    ghost remaining = { λ left. at_most (left.end - left.at) };
+
+    fn next(&mut self) -> Option<Block<'a>> {
         let at = self.at;
         if self.end <= at {
             return None;
@@ -64,7 +69,6 @@ impl<'a> Blocks<'a> {
 }
 
 impl<'a> Block<'a> {
-    ghost use Rattle.std.specs.Prelude.{◌≡◌};
     ghost use Rattle.program_nodes.specs.Nodes.{block_in, RecordsOf};
 
     pub fn id(self) -> BlockId
@@ -85,13 +89,17 @@ impl<'a> Block<'a> {
     }
 }
 
-impl<'a> Records<'a> {
+impl<'a> Iterator for Records<'a> {
+    type Item = Record<'a>;
+
+    ghost use Rattle.std.specs.Iterator.{at_most};
     ghost use Rattle.program_nodes.specs.Nodes.{TakesRecord};
 
-    // Takes the first of them.
-    pub fn next(&mut self) -> Option<Record<'a>>
-        ensures { TakesRecord self.old self.new result }
-    {
+    ghost next_gives = { λ old first new. TakesRecord old new first };
+
+    ghost remaining = { λ left. at_most (left.end - left.at) };
+
+    fn next(&mut self) -> Option<Record<'a>> {
         let sheet = self.sheet;
         let at = self.at;
         if self.end <= at {

@@ -60,17 +60,40 @@ pub fn type_at(s: &[u8], at: usize) -> IrType
 
 impl<'a> Instr<'a> {
     ghost use Rattle.std.specs.Prelude.{true, ◌-◌, ◌/◌};
+    ghost use Rattle.definitions.specs.Fields.{le};
     ghost use Rattle.definitions.specs.Ir.{result_type};
     ghost use Rattle.format.specs.Kinds.{instr_number};
     ghost use Rattle.ir.specs.Answers.{option_of};
     ghost use Rattle.program_nodes.specs.Positions.{ids_here, has_type, type_offset};
-    ghost use Rattle.program_nodes.specs.Nodes.{instr_in, instr_is, result_in, value_of, ids_in};
+    ghost use Rattle.program_nodes.specs.Nodes.{instr_in, instr_is, is_access, result_in, value_of, ids_in};
+
+    // The id that stands at an offset, the type, and the number of so many bytes.
+    fn id(self, offset: usize) -> u16
+        requires { self.at + offset + 2 ≤ self.stop }
+        ensures { result ≡ le 2 self.entry.sheet.now (self.entry.at + offset) }
+    {
+        read_u16(self.sheet, self.at + offset)
+    }
+
+    fn ty(self, offset: usize) -> IrType
+        requires { self.at + offset + 4 ≤ self.stop }
+        ensures { as_type result ≡ type_here self.entry.sheet.now (self.entry.at + offset) }
+    {
+        type_at(self.sheet, self.at + offset)
+    }
+
+    fn number(self, offset: usize, bytes: usize) -> usize
+        requires { (self.at + offset + bytes ≤ self.stop) × (bytes ≤ 8) }
+        ensures { result ≡ le bytes self.entry.sheet.now (self.entry.at + offset) }
+    {
+        read(self.sheet, self.at + offset, bytes)
+    }
 
     // The value that it defines, if there is one.
     pub fn result(self) -> Option<ValueId>
         ensures { option_of value_of result ≡ result_in self.entry }
     {
-        let value = read_u16(self.sheet, self.at + program::RESULT);
+        let value = self.id(program::RESULT);
         if value == ABSENT {
             None
         } else {
@@ -87,7 +110,7 @@ impl<'a> Instr<'a> {
             kinds::Instruction::ReadLocal | kinds::Instruction::Call => program::TYPE_SECOND,
             _ => program::TYPE_FIRST,
         };
-        type_at(self.sheet, self.at + offset)
+        self.ty(offset)
     }
 
     // The values that stand from an offset to its end.
@@ -119,15 +142,14 @@ impl<'a> Instr<'a> {
         }
     }
 
+    // What it is.
     pub fn node(self) -> Instruction<'a>
         ensures { instr_is result ≡ instr_in self.entry }
     {
-        let s = self.sheet;
-        let q = self.at;
         match self.kind {
             kinds::Instruction::Const => Instruction::Const(
-                type_at(s, q + program::CONST_TYPE),
-                read(s, q + program::CONST_VALUE, 8),
+                self.ty(program::CONST_TYPE),
+                self.number(program::CONST_VALUE, 8),
             ),
             kinds::Instruction::Add
             | kinds::Instruction::Sub
@@ -140,66 +162,86 @@ impl<'a> Instr<'a> {
             | kinds::Instruction::Gt
             | kinds::Instruction::Ge => Instruction::Binary(
                 self.kind,
-                type_at(s, q + program::BINARY_TYPE),
-                ValueId(read_u16(s, q + program::LEFT)),
-                ValueId(read_u16(s, q + program::RIGHT)),
+                self.ty(program::BINARY_TYPE),
+                ValueId(self.id(program::LEFT)),
+                ValueId(self.id(program::RIGHT)),
             ),
-            kinds::Instruction::Load => Instruction::Load(
-                type_at(s, q + program::LOAD_TYPE),
-                ValueId(read_u16(s, q + program::LOAD_BASE)),
-                read(s, q + program::LOAD_OFFSET, 8),
-            ),
-            kinds::Instruction::Store => Instruction::Store(
-                ValueId(read_u16(s, q + program::STORE_BASE)),
-                read(s, q + program::STORE_OFFSET, 8),
-                ValueId(read_u16(s, q + program::STORED)),
-            ),
-            kinds::Instruction::StateRead => Instruction::StateRead(
-                type_at(s, q + program::STATE_READ_TYPE),
-                read(s, q + program::STATE_READ_SLOT, 4),
-            ),
-            kinds::Instruction::StateWrite => Instruction::StateWrite(
-                read(s, q + program::STATE_WRITE_SLOT, 4),
-                ValueId(read_u16(s, q + program::STATE_WRITTEN)),
-            ),
-            kinds::Instruction::ReadLocal => Instruction::ReadLocal(
-                LocalId(read_u16(s, q + program::READ_LOCAL)),
-                type_at(s, q + program::READ_LOCAL_TYPE),
-            ),
-            kinds::Instruction::WriteLocal => Instruction::WriteLocal(
-                LocalId(read_u16(s, q + program::WRITTEN_LOCAL)),
-                ValueId(read_u16(s, q + program::LOCAL_WRITTEN)),
-            ),
-            kinds::Instruction::Call => Instruction::Call(
-                FunctionId(read_u16(s, q + program::CALLEE)),
-                self.values_from(program::CALL_ARGS),
-                type_at(s, q + program::CALL_TYPE),
-            ),
-            kinds::Instruction::Assert => {
-                Instruction::Assert(ValueId(read_u16(s, q + program::ASSERTED)))
-            }
+            kinds::Instruction::Assert => Instruction::Assert(ValueId(self.id(program::ASSERTED))),
             kinds::Instruction::Poseidon => Instruction::Poseidon(
-                ValueId(read_u16(s, q + program::POSEIDON_LEFT)),
-                ValueId(read_u16(s, q + POSEIDON_RIGHT)),
+                ValueId(self.id(program::POSEIDON_LEFT)),
+                ValueId(self.id(POSEIDON_RIGHT)),
             ),
             kinds::Instruction::Emit => Instruction::Emit(
-                Name::new(read_u16(s, q + program::EVENT)),
+                Name::new(self.id(program::EVENT)),
                 self.values_from(program::EVENT_ARGS),
             ),
-            kinds::Instruction::ContextRead => Instruction::ContextRead(ContextKind::try_from(
-                read_u16(s, q + program::CONTEXT),
-            ).unwrap()),
+            kinds::Instruction::Load
+            | kinds::Instruction::Store
+            | kinds::Instruction::StateRead
+            | kinds::Instruction::StateWrite
+            | kinds::Instruction::ReadLocal
+            | kinds::Instruction::WriteLocal
+            | kinds::Instruction::Call
+            | kinds::Instruction::ContextRead => self.access_node(),
+        }
+    }
+
+    // What it is, if it reaches beyond values: for memory, a state word, a local, a function or the context.
+    fn access_node(self) -> Instruction<'a>
+        requires { is_access self.kind ≡ true }
+        ensures { instr_is result ≡ instr_in self.entry }
+    {
+        match self.kind {
+            kinds::Instruction::Load => Instruction::Load(
+                self.ty(program::LOAD_TYPE),
+                ValueId(self.id(program::LOAD_BASE)),
+                self.number(program::LOAD_OFFSET, 8),
+            ),
+            kinds::Instruction::Store => Instruction::Store(
+                ValueId(self.id(program::STORE_BASE)),
+                self.number(program::STORE_OFFSET, 8),
+                ValueId(self.id(program::STORED)),
+            ),
+            kinds::Instruction::StateRead => Instruction::StateRead(
+                self.ty(program::STATE_READ_TYPE),
+                self.number(program::STATE_READ_SLOT, 4),
+            ),
+            kinds::Instruction::StateWrite => Instruction::StateWrite(
+                self.number(program::STATE_WRITE_SLOT, 4),
+                ValueId(self.id(program::STATE_WRITTEN)),
+            ),
+            kinds::Instruction::ReadLocal => Instruction::ReadLocal(
+                LocalId(self.id(program::READ_LOCAL)),
+                self.ty(program::READ_LOCAL_TYPE),
+            ),
+            kinds::Instruction::WriteLocal => Instruction::WriteLocal(
+                LocalId(self.id(program::WRITTEN_LOCAL)),
+                ValueId(self.id(program::LOCAL_WRITTEN)),
+            ),
+            kinds::Instruction::Call => Instruction::Call(
+                FunctionId(self.id(program::CALLEE)),
+                self.values_from(program::CALL_ARGS),
+                self.ty(program::CALL_TYPE),
+            ),
+            kinds::Instruction::ContextRead => {
+                Instruction::ContextRead(ContextKind::try_from(self.id(program::CONTEXT)).unwrap())
+            }
+            _ => unreachable!(),
         }
     }
 }
 
-impl Ids<'_> {
+impl Iterator for Ids<'_> {
+    type Item = ValueId;
+
+    ghost use Rattle.std.specs.Iterator.{at_most};
     ghost use Rattle.program_nodes.specs.Nodes.{TakesId};
 
-    // Takes the first of them.
-    pub fn next(&mut self) -> Option<ValueId>
-        ensures { TakesId self.old self.new result }
-    {
+    ghost next_gives = { λ old v new. TakesId old new v };
+
+    ghost remaining = { λ left. at_most left.left };
+
+    fn next(&mut self) -> Option<ValueId> {
         if self.left == 0 {
             return None;
         }

@@ -1,5 +1,5 @@
 // The program, its functions and their parameters.
-ghost use Rattle.std.specs.Prelude.{◌≡◌, ◌+◌, ◌*◌, ◌≤◌, length};
+ghost use Rattle.std.specs.Prelude.{◌≡◌, ◌+◌, ◌-◌, ◌*◌, ◌≤◌, length};
 ghost use Rattle.definitions.specs.Records.{Good};
 ghost use Rattle.definitions.specs.ProgramSheet.{refusal40};
 ghost use Rattle.program_nodes.specs.Standing.{FunctionsStand, FunctionStands};
@@ -86,13 +86,17 @@ impl<'a> Program<'a> {
     }
 }
 
-impl<'a> Functions<'a> {
+impl<'a> Iterator for Functions<'a> {
+    type Item = Function<'a>;
+
+    ghost use Rattle.std.specs.Iterator.{at_most};
     ghost use Rattle.program_nodes.specs.Nodes.{TakesFunction};
 
-    // Takes the first of them.
-    pub fn next(&mut self) -> Option<Function<'a>>
-        ensures { TakesFunction self.old self.new result }
-    {
+    ghost next_gives = { λ old function new. TakesFunction old new function };
+
+    ghost remaining = { λ left. at_most (length left.program.sheet.now - left.at) };
+
+    fn next(&mut self) -> Option<Function<'a>> {
         let program = self.program;
         let s = program.sheet;
         let at = self.at;
@@ -173,13 +177,17 @@ impl<'a> Function<'a> {
     }
 }
 
-impl<'a> Params<'a> {
+impl<'a> Iterator for Params<'a> {
+    type Item = Param<'a>;
+
+    ghost use Rattle.std.specs.Iterator.{at_most};
     ghost use Rattle.program_nodes.specs.Nodes.{TakesParam};
 
-    // Takes the first of them.
-    pub fn next(&mut self) -> Option<Param<'a>>
-        ensures { TakesParam self.old self.new result }
-    {
+    ghost next_gives = { λ old param new. TakesParam old new param };
+
+    ghost remaining = { λ left. at_most left.left };
+
+    fn next(&mut self) -> Option<Param<'a>> {
         if self.left == 0 {
             return None;
         }

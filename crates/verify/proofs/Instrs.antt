@@ -2,7 +2,7 @@
 use mathlib.Core.Path.{◌≡◌, refl, sym, ◌∙◌}
 use mathlib.Core.List.{[], ◌∷◌}
 use Prim.Native.Nat.{ℕ}
-use Rattle.std.specs.Prelude.{Option, Ok, Err}
+use Rattle.std.specs.Prelude.{Option, Result, Ok, Err, IsErr, IsErrAnd}
 use Rattle.definitions.specs.Result.{err, ok, ◌>>=◌, ◌>>◌, check, Done}
 use Rattle.definitions.specs.Ir.{eq_type}
 use Rattle.definitions.specs.Ir as ir
@@ -22,11 +22,11 @@ use Rattle.program_nodes.specs.declared.instr.Instruction.{Instruction}
 use Rattle.program_nodes.specs.declared.instr.Instruction.TheVariants as instr
 use Rattle.program_nodes.specs.declared.term.Terminator.{Terminator}
 use Rattle.program_nodes.specs.declared.term.Terminator.TheVariants as term
-use Rattle.verify_state.specs.Errors.{Outcome, error_of, named}
+use Rattle.verify_state.specs.Errors.{Outcome, error_of, checked_of, named}
 use Rattle.verify_state.specs.Promises.{Says, Checks}
 use Rattle.verify_state.specs.declared.VerifyError.{VerifyError as Fault}
 use Rattle.verify_refs.specs.Promises.{Finds, function_check, local_check, target_check, operands_check, condition_check, return_check, instr_check, term_check}
-use Rattle.verify_state.proofs.Steps.{Leads, lead_over, lead_failed, lead_passed, says_all, first_failed, then_rest}
+use Rattle.verify_state.proofs.Steps.{handed_on, Leads, lead_over, lead_failed, lead_passed, says_all}
 use Rattle.verify_refs.proofs.Values.{value_failed, value_passed}
 
 -- ONE VALUE as a list of values
@@ -38,10 +38,6 @@ module _ {f : Function} (v : ℕ) where
   as_list : {r : Outcome} → Checks f r (check_value_ref v) → Checks f r (check_value_refs (v ∷ []))
   unfolding check_value_refs
   as_list h = record { says = λ ds S. h.says ds S ∙ sym (only f.name.0 (check_value_ref v ds)) }
-
-  alone : {r : Outcome} → Checks f r (check_value_refs (v ∷ [])) → Checks f r (check_value_ref v)
-  unfolding check_value_refs
-  alone h = record { says = λ ds S. h.says ds S ∙ only f.name.0 (check_value_ref v ds) }
 
   pub use_failed : {x : Fault} → Finds f v (Err x) → Checks f (err (error_of x)) (check_value_refs (v ∷ []))
   use_failed F = as_list (value_failed F)
@@ -91,40 +87,37 @@ module _ (f : Function) {i : Instruction} where
     unfolding verify_instr
     read_local {l} e h = rw e (says_all {f = f} (local_check f l.0) h)
 
-    -- two parts
-    pub store : {a v : ValueId} {n : ℕ} → i ≡ instr.Store a n v → Checks f (ok tt) (check_value_refs (a.0 ∷ [])) → Checks f r (check_value_refs (v.0 ∷ [])) → Gives f i r
-    unfolding verify_instr check_value_refs
-    store {a} {v} e h g = rw e (then_rest (check_value_ref a.0) (check_value_refs (v.0 ∷ [])) (alone a.0 h) g)
+-- AN INSTRUCTION OF TWO PARTS: the first fails, which `?` hands on, or it passes and the second decides
+pub record Parts (f : Function) (i : Instruction) (first rest : Defined → Checked Done) : Type 0 where
+  pub leads : Leads f (instr_check f (instr_is i)) (λ (ds : Defined). first ds >> rest ds)
 
-    pub poseidon : {a b : ValueId} → i ≡ instr.Poseidon a b → Checks f (ok tt) (check_value_refs (a.0 ∷ [])) → Checks f r (check_value_refs (b.0 ∷ [])) → Gives f i r
-    unfolding verify_instr check_value_refs
-    poseidon {a} {b} e h g = rw e (then_rest (check_value_ref a.0) (check_value_refs (b.0 ∷ [])) (alone a.0 h) g)
+module _ {f : Function} {i : Instruction} {first rest : Defined → Checked Done} (P : Parts f i first rest) where
+  pub handed : (x : Fault) (r : Result (Unit {0}) Fault) → IsErr r × IsErrAnd r (λ (e : Fault). e ≡ x) → Checks f (err (error_of x)) first → Gives f i (checked_of r)
+  handed x r e h = rw (handed_on r x e) (lead_failed first rest P.leads h)
 
-    pub write_local : {l : LocalId} {v : ValueId} → i ≡ instr.WriteLocal l v → Says f (ok tt) (local_check f l.0) → Checks f r (check_value_refs (v.0 ∷ [])) → Gives f i r
-    unfolding verify_instr
-    write_local {l} {v} e h g = rw e (then_rest (λ (ds : Defined). local_check f l.0) (check_value_refs (v.0 ∷ [])) (says_all {f = f} (local_check f l.0) h) g)
+  pub second : {r : Outcome} → Checks f (ok tt) first → Checks f r rest → Gives f i r
+  second h g = lead_over (lead_passed first rest P.leads h) g
 
-    pub call : {g : FunctionId} {vs : Ids} {t : IrType} → i ≡ instr.Call g vs t → Says f (ok tt) (function_check f g.0) → Checks f r (check_value_refs (ids_in vs)) → Gives f i r
-    unfolding verify_instr
-    call {g} {vs} e h k = rw e (then_rest (λ (ds : Defined). function_check f g.0) (check_value_refs (ids_in vs)) (says_all {f = f} (function_check f g.0) h) k)
+two_values : {A : Type 0} (n : ℕ) (a : Checked A) (b : Checked Done) → named n ((a >> ok (tt {0})) >> b) ≡ named n (a >> b)
+two_values n (err x) b = refl
+two_values n (ok a) b = refl
 
-  -- the first of two parts failed
-  module _ {x : ℕ × VerifyError} where
-    pub store_failed : {a v : ValueId} {n : ℕ} → i ≡ instr.Store a n v → Checks f (err x) (check_value_refs (a.0 ∷ [])) → Gives f i (err x)
-    unfolding verify_instr check_value_refs
-    store_failed {a} {v} e h = rw e (first_failed (check_value_ref a.0) (check_value_refs (v.0 ∷ [])) (alone a.0 h))
+module _ (f : Function) {i : Instruction} where
+  pub store : {a v : ValueId} {n : ℕ} → i ≡ instr.Store a n v → Parts f i (check_value_refs (a.0 ∷ [])) (check_value_refs (v.0 ∷ []))
+  unfolding verify_instr check_value_refs
+  store {a} {v} e = rw e (record { leads = record { same = λ ds S. two_values f.name.0 (check_value_ref a.0 ds) (check_value_refs (v.0 ∷ []) ds) } })
 
-    pub poseidon_failed : {a b : ValueId} → i ≡ instr.Poseidon a b → Checks f (err x) (check_value_refs (a.0 ∷ [])) → Gives f i (err x)
-    unfolding verify_instr check_value_refs
-    poseidon_failed {a} {b} e h = rw e (first_failed (check_value_ref a.0) (check_value_refs (b.0 ∷ [])) (alone a.0 h))
+  pub poseidon : {a b : ValueId} → i ≡ instr.Poseidon a b → Parts f i (check_value_refs (a.0 ∷ [])) (check_value_refs (b.0 ∷ []))
+  unfolding verify_instr check_value_refs
+  poseidon {a} {b} e = rw e (record { leads = record { same = λ ds S. two_values f.name.0 (check_value_ref a.0 ds) (check_value_refs (b.0 ∷ []) ds) } })
 
-    pub write_local_failed : {l : LocalId} {v : ValueId} → i ≡ instr.WriteLocal l v → Says f (err x) (local_check f l.0) → Gives f i (err x)
-    unfolding verify_instr
-    write_local_failed {l} {v} e h = rw e (first_failed (λ (ds : Defined). local_check f l.0) (check_value_refs (v.0 ∷ [])) (says_all {f = f} (local_check f l.0) h))
+  pub write_local : {l : LocalId} {v : ValueId} → i ≡ instr.WriteLocal l v → Parts f i (λ (ds : Defined). local_check f l.0) (check_value_refs (v.0 ∷ []))
+  unfolding verify_instr
+  write_local e = rw e (record { leads = record { same = λ ds S. refl } })
 
-    pub call_failed : {g : FunctionId} {vs : Ids} {t : IrType} → i ≡ instr.Call g vs t → Says f (err x) (function_check f g.0) → Gives f i (err x)
-    unfolding verify_instr
-    call_failed {g} {vs} e h = rw e (first_failed (λ (ds : Defined). function_check f g.0) (check_value_refs (ids_in vs)) (says_all {f = f} (function_check f g.0) h))
+  pub call : {g : FunctionId} {vs : Ids} {t : IrType} → i ≡ instr.Call g vs t → Parts f i (λ (ds : Defined). function_check f g.0) (check_value_refs (ids_in vs))
+  unfolding verify_instr
+  call e = rw e (record { leads = record { same = λ ds S. refl } })
 
 -- A BRANCH on v to b or e
 grouped : {A : Type 0} (n : ℕ) (r : Checked A) (k : A → Checked Done) (c : Checked Done) → named n ((r >>= k) >> c) ≡ named n (r >>= λ (a : A). k a >> c)

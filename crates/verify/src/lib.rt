@@ -85,8 +85,7 @@ fn verify_terminator(f: Function<'_>, term: Terminator) -> Result<(), VerifyErro
 fn verify_block(f: Function<'_>, block: Block<'_>) -> Result<(), VerifyError>
     ensures { Checks f.entry (checked_of result) (block_check f.entry block.entry) }
 {
-    let mut records = block.records();
-    while let Some(record) = records.next() {
+    for record in block.records() {
         match record {
             Record::Instr(instr) => verify_instr(f, instr.node())?,
             Record::Term(term) => return verify_terminator(f, term.node()),
@@ -99,8 +98,7 @@ fn verify_block(f: Function<'_>, block: Block<'_>) -> Result<(), VerifyError>
 fn verify_blocks(f: Function<'_>) -> Result<(), VerifyError>
     ensures { Checks f.entry (checked_of result) (blocks_check f.entry) }
 {
-    let mut blocks = f.blocks();
-    while let Some(block) = blocks.next() {
+    for block in f.blocks() {
         verify_block(f, block)?;
     }
     Ok(())
@@ -119,8 +117,7 @@ fn verify_function(f: Function<'_>) -> Result<(), VerifyError>
 fn verify_program(program: Program<'_>) -> Result<(), VerifyError>
     ensures { checked_of result ≡ verify_functions (functions_of program.entry) (ids_of_all program.entry) }
 {
-    let mut functions = program.functions();
-    while let Some(function) = functions.next() {
+    for function in program.functions() {
         verify_function(function)?;
     }
     Ok(())

@@ -1,5 +1,5 @@
 -- What the parts of the first pass promise of their answers. Helpers of contracts: no public promise cites them. Assumes nothing: these are definitions.
-use Rattle.std.specs.Prelude.{ℕ, ◌≡◌, List, ◌++◌}
+use Rattle.std.specs.Prelude.{◌≡◌, List, ◌++◌}
 use Rattle.definitions.specs.Records.{read_records}
 use Rattle.definitions.specs.Verify.{Checked, Defined, define_params, define_result, define_results, define_blocks}
 use Rattle.program_nodes.specs.Definitions.{Definition, blocks_definitions}

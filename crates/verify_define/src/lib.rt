@@ -12,8 +12,7 @@ use verify_state::VerifyError;
 pub fn define_params(f: Function<'_>) -> Result<(), VerifyError>
     ensures { DefinesParams f.entry (checked_of result) }
 {
-    let mut params = f.params();
-    while let Some(param) = params.next() {
+    for param in f.params() {
         let value = param.value();
         if !verify_lookup::is_first_definition(f, value, param.at) {
             return Err(VerifyError::DuplicateValueDef(f.name, value));
@@ -44,8 +43,7 @@ fn define_result(f: Function<'_>, instr: Instr<'_>) -> Result<(), VerifyError>
 fn define_block(f: Function<'_>, block: Block<'_>) -> Result<(), VerifyError>
     ensures { DefinesBlock f.entry (checked_of result) block.entry }
 {
-    let mut records = block.records();
-    while let Some(record) = records.next() {
+    for record in block.records() {
         match record {
             Record::Instr(instr) => define_result(f, instr)?,
             Record::Term(_) => return Ok(()),
@@ -58,8 +56,7 @@ fn define_block(f: Function<'_>, block: Block<'_>) -> Result<(), VerifyError>
 pub fn define_blocks(f: Function<'_>) -> Result<(), VerifyError>
     ensures { DefinesBlocks f.entry (checked_of result) }
 {
-    let mut blocks = f.blocks();
-    while let Some(block) = blocks.next() {
+    for block in f.blocks() {
         define_block(f, block)?;
     }
     Ok(())

@@ -23,7 +23,7 @@ use Rattle.program_nodes.specs.declared.block.Record.{Record}
 use Rattle.program_nodes.specs.declared.block.Record.TheVariants as record'
 use Rattle.program_nodes.specs.declared.instr.Instr.{Instr}
 use Rattle.program_nodes.specs.declared.term.Term.{Term}
-use Rattle.program_nodes.proofs.Definitions.{or_else, first_append}
+use Rattle.program_nodes.proofs.Definitions.{first_append}
 
 -- DEFINITIONS: the front one has the value, or has another
 pub hit : {v : ℕ} {d : Definition} {ds es : List Definition} → ds ≡ d ∷ es → d.value ≡ v → some d ≡ first_definition v ds

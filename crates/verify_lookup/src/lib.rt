@@ -47,8 +47,7 @@ impl Definition<'_> {
 fn find_param<'a>(f: Function<'a>, v: ValueId) -> Option<Param<'a>>
     ensures { option_of param_definition_in result ≡ first_definition v.0 (params_of f.entry) }
 {
-    let mut params = f.params();
-    while let Some(param) = params.next() {
+    for param in f.params() {
         if param.value() == v {
             return Some(param);
         }
@@ -60,8 +59,7 @@ fn find_param<'a>(f: Function<'a>, v: ValueId) -> Option<Param<'a>>
 fn find_in_block<'a>(block: Block<'a>, v: ValueId) -> Option<Instr<'a>>
     ensures { option_of (instr_definition_in v.0) result ≡ first_definition v.0 (block_definitions_of block.entry) }
 {
-    let mut records = block.records();
-    while let Some(record) = records.next() {
+    for record in block.records() {
         match record {
             Record::Instr(instr) => {
                 if instr.result() == Some(v) {
@@ -81,8 +79,7 @@ pub fn first_definition<'a>(f: Function<'a>, v: ValueId) -> Option<Definition<'a
     if let Some(param) = find_param(f, v) {
         return Some(Definition::Param(param));
     }
-    let mut blocks = f.blocks();
-    while let Some(block) = blocks.next() {
+    for block in f.blocks() {
         if let Some(instr) = find_in_block(block, v) {
             return Some(Definition::Instr(instr));
         }
@@ -112,8 +109,7 @@ pub fn find_block<'a>(f: Function<'a>, b: BlockId) -> Option<Block<'a>>
     ensures is { option_of block_in result ≡ find b.0 (ir_of f.entry).blocks }
     ensures same_sheet { IfSome result (λ block. block.sheet.now ≡ f.entry.program.sheet.now) }
 {
-    let mut blocks = f.blocks();
-    while let Some(block) = blocks.next() {
+    for block in f.blocks() {
         if block.id() == b {
             return Some(block);
         }
@@ -133,8 +129,7 @@ pub fn find_function<'a>(program: Program<'a>, g: FunctionId) -> Option<Function
     ensures is { option_of ir_of result ≡ function_with g.0 (functions_of program.entry) }
     ensures same_sheet { IfSome result (λ f. f.program.sheet.now ≡ program.entry.sheet.now) }
 {
-    let mut functions = program.functions();
-    while let Some(function) = functions.next() {
+    for function in program.functions() {
         if function.id() == g {
             return Some(function);
         }

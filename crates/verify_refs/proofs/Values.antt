@@ -1,6 +1,5 @@
 -- References to values: defined or not, and of what type. Assumes nothing.
-use mathlib.Core.Path.{◌≡◌, refl, ap, sym, ◌∙◌}
-use mathlib.Core.Bool.{Bool, true, false}
+use mathlib.Core.Path.{◌≡◌, refl, ap, sym}
 use mathlib.Core.List.{List, [], ◌∷◌}
 use mathlib.Core.Option.{Option, none, some}
 use Prim.Native.Nat.{ℕ}
@@ -14,7 +13,7 @@ use Rattle.ir.specs.declared.IrType.{IrType}
 use Rattle.program_nodes.specs.Definitions.{Definition, type_of_definition, first_type}
 use Rattle.program_nodes.specs.Nodes.{definitions_of}
 use Rattle.program_nodes.specs.declared.program.Function.{Function}
-use Rattle.verify_state.specs.Errors.{Outcome, error_of, named}
+use Rattle.verify_state.specs.Errors.{error_of, named}
 use Rattle.verify_state.specs.Promises.{Agree, SameTable, Checks}
 use Rattle.verify_state.specs.declared.VerifyError.{VerifyError as Fault}
 use Rattle.verify_state.proofs.Steps.{Leads, lead_over, lead_failed, lead_passed}

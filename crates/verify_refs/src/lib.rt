@@ -35,8 +35,7 @@ pub fn check_value(f: Function<'_>, v: ValueId) -> Result<IrType, VerifyError>
 pub fn check_values(f: Function<'_>, values: Ids<'_>) -> Result<(), VerifyError>
     ensures { Checks f.entry (checked_of result) (check_value_refs (ids_in values.entry)) }
 {
-    let mut left = values;
-    while let Some(v) = left.next() {
+    for v in values {
         check_value(f, v)?;
     }
     Ok(())

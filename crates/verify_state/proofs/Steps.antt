@@ -59,14 +59,3 @@ module _ {A B C : Type 0} {f : Function} {whole : Defined → Checked A} (first 
 -- a part that no table is asked for
 pub says_all : {A : Type 0} {f : Function} {r : Outcome} (x : Checked A) → Says f r x → Checks f r (λ (ds : Defined). x)
 says_all x e = record { says = λ ds S. e }
-
--- two parts, one after the other
-module _ {A B : Type 0} {f : Function} (first : Defined → Checked A) (rest : Defined → Checked B) where
-  whole : Leads f (λ (ds : Defined). first ds >> rest ds) (λ (ds : Defined). first ds >> rest ds)
-  whole = record { same = λ ds S. refl }
-
-  pub first_failed : {x : ℕ × VerifyError} → Checks f (err x) first → Checks f (err x) (λ (ds : Defined). first ds >> rest ds)
-  first_failed h = lead_failed first rest whole h
-
-  pub then_rest : {r : Outcome} → Checks f (ok tt) first → Checks f r rest → Checks f r (λ (ds : Defined). first ds >> rest ds)
-  then_rest h g = lead_over (lead_passed first rest whole h) g

@@ -1,6 +1,9 @@
 // Why the verifier refuses.
 #![tactic(auto)]
 
+ghost use Rattle.std.specs.Prelude.{◌≡◌};
+ghost use Rattle.verify_state.specs.Errors.{error_of};
+
 use ir::{BlockId, FunctionId, IrType, LocalId, Name, ValueId};
 use std::error::Error;
 use std::fmt;
@@ -20,62 +23,61 @@ pub enum VerifyError {
     ResultOnNone(Name, u16),
 }
 
+impl VerifyError {
+    // The function's name.
+    fn function(self) -> Name
+        ensures { result.0 ≡ (error_of self).0 }
+    {
+        match self {
+            VerifyError::UndefinedValue(name, _)
+            | VerifyError::DuplicateValueDef(name, _)
+            | VerifyError::UndefinedBlock(name, _)
+            | VerifyError::MissingTerminator(name, _)
+            | VerifyError::ReturnTypeMismatch(name, _, _)
+            | VerifyError::BranchConditionNotBool(name, _, _)
+            | VerifyError::OperandTypeMismatch(name, _, _)
+            | VerifyError::UndefinedLocal(name, _)
+            | VerifyError::UndefinedFunction(name, _)
+            | VerifyError::ResultOnNone(name, _) => name,
+        }
+    }
+}
+
 impl fmt::Display for VerifyError {
     fn fmt<W: fmt::Write>(&self, f: &mut fmt::Formatter<W>) -> fmt::Result {
+        write!(f, "fn {}: ", self.function().0)?;
         match *self {
-            VerifyError::UndefinedValue(name, value) => {
-                write!(f, "fn {}: undefined value %{}", name.0, value.0)
+            VerifyError::UndefinedValue(_, value) => write!(f, "undefined value %{}", value.0),
+            VerifyError::DuplicateValueDef(_, value) => {
+                write!(f, "value %{} defined more than once", value.0)
             }
-            VerifyError::DuplicateValueDef(name, value) => {
+            VerifyError::UndefinedBlock(_, block) => write!(f, "undefined block bb{}", block.0),
+            VerifyError::MissingTerminator(_, block) => {
+                write!(f, "block bb{} has no terminator", block.0)
+            }
+            VerifyError::ReturnTypeMismatch(_, expected, got) => {
                 write!(
                     f,
-                    "fn {}: value %{} defined more than once",
-                    name.0, value.0
+                    "return type mismatch - expected {:?}, got {:?}",
+                    expected, got
                 )
             }
-            VerifyError::UndefinedBlock(name, block) => {
-                write!(f, "fn {}: undefined block bb{}", name.0, block.0)
-            }
-            VerifyError::MissingTerminator(name, block) => {
-                write!(f, "fn {}: block bb{} has no terminator", name.0, block.0)
-            }
-            VerifyError::ReturnTypeMismatch(name, expected, got) => {
+            VerifyError::BranchConditionNotBool(_, value, ty) => {
                 write!(
                     f,
-                    "fn {}: return type mismatch - expected {:?}, got {:?}",
-                    name.0, expected, got
+                    "branch condition %{} has type {:?} (expected Bool)",
+                    value.0, ty
                 )
             }
-            VerifyError::BranchConditionNotBool(name, value, ty) => {
-                write!(
-                    f,
-                    "fn {}: branch condition %{} has type {:?} (expected Bool)",
-                    name.0, value.0, ty
-                )
+            VerifyError::OperandTypeMismatch(_, left, right) => {
+                write!(f, "operand type mismatch - lhs {:?}, rhs {:?}", left, right)
             }
-            VerifyError::OperandTypeMismatch(name, left, right) => {
-                write!(
-                    f,
-                    "fn {}: operand type mismatch - lhs {:?}, rhs {:?}",
-                    name.0, left, right
-                )
+            VerifyError::UndefinedLocal(_, local) => write!(f, "undefined local l{}", local.0),
+            VerifyError::UndefinedFunction(_, function) => {
+                write!(f, "call to undefined function id {}", function.0)
             }
-            VerifyError::UndefinedLocal(name, local) => {
-                write!(f, "fn {}: undefined local l{}", name.0, local.0)
-            }
-            VerifyError::UndefinedFunction(name, function) => {
-                write!(
-                    f,
-                    "fn {}: call to undefined function id {}",
-                    name.0, function.0
-                )
-            }
-            VerifyError::ResultOnNone(name, kind) => {
-                write!(
-                    f,
-                    "fn {}: an instruction of kind {} gives no result",
-                    name.0, kind
-                )
+            VerifyError::ResultOnNone(_, kind) => {
+                write!(f, "an instruction of kind {} gives no result", kind)
             }
         }
     }

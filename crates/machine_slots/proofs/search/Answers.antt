@@ -13,35 +13,37 @@ use Rattle.machine_slots.proofs.search.Goals as goal
 pub loop-param-init : goal.loop-param-init
 unfolding value_ids
 loop-param-init c =
-    left_as (ap (λ l. map param_id l ++ blocks_results (ir_of c.args.f).blocks) (sym c.params-params.ensures.is)) (record { same = refl; room = omega (arith, ids_high c.args.f) })
+    rw c.into_iter-param-iterator.ensures.into_iter_gives
+    (left_as (ap (λ l. map param_id l ++ blocks_results (ir_of c.args.f).blocks) (sym c.params-param-items.ensures.is)) (record { same = refl; room = omega (arith, ids_high c.args.f) }))
 
 pub pass-requires : goal.pass-requires
-pass-requires c = omega (arith, one_room c.loop-param.invariant (param_front _ _ _ c.next.ensures c.in-Some.is c.value-id.ensures))
+pass-requires c = omega (arith, one_room c.loop-param.invariant (param_front _ _ _ c.next.ensures.steps c.in-Some.is c.value-id.ensures))
 
-pub returns-in_err-ids : goal.returns-in_err-ids
-returns-in_err-ids c =
-    handed_back c.in_err-ids.field-0.0 c.from_residual.result c.from_residual.ensures
-    ∙ one_found c.loop-param.invariant (param_front _ _ _ c.next.ensures c.in-Some.is c.value-id.ensures) c.pass.ensures c.in_err-ids.was
+pub returns-in_err-tally : goal.returns-in_err-tally
+returns-in_err-tally c =
+    handed_back c.in_err-tally.field-0.0 c.from_residual.result c.from_residual.ensures
+    ∙ one_found c.loop-param.invariant (param_front _ _ _ c.next.ensures.steps c.in-Some.is c.value-id.ensures) c.pass.ensures c.in_err-tally.was
 
 pub loop-param-preserved : goal.loop-param-preserved
-loop-param-preserved c = one_on c.loop-param.invariant (param_front _ _ _ c.next.ensures c.in-Some.is c.value-id.ensures) c.pass.ensures c.in_ok-ids.was
+loop-param-preserved c = one_on c.loop-param.invariant (param_front _ _ _ c.next.ensures.steps c.in-Some.is c.value-id.ensures) c.pass.ensures c.in_ok-tally.was
 
 pub loop-block-init : goal.loop-block-init
-loop-block-init c = left_as (no_param _ _ _ c.next.ensures c.in_default.is ∙ ap blocks_results (sym c.blocks-blocks.ensures.is)) c.loop-param.invariant
+loop-block-init c =
+    rw c.into_iter-block-iterator.ensures.into_iter_gives (left_as (no_param _ _ _ c.next.ensures.steps c.in-None.is ∙ ap blocks_results (sym c.blocks-block-items.ensures.is)) c.loop-param.invariant)
 
 pub pass_block-requires : goal.pass_block-requires
 pass_block-requires c =
-    let r = (left_as (block_front _ _ c.next-in-loop-block.ensures c.in-Some-next.is) c.loop-block.invariant).room in
+    let r = (left_as (block_front _ _ c.next-in-loop-block.ensures.steps c.in-Some-block.is) c.loop-block.invariant).room in
     let m = rw length-append at r in
     omega arith
 
-pub returns-in_err-ids-2 : goal.returns-in_err-ids-2
-returns-in_err-ids-2 c =
-    handed_back c.in_err-ids-2.field-0.0 c.from_residual-in_err-ids-2.result c.from_residual-in_err-ids-2.ensures
-    ∙ left_found _ _ (left_as (block_front _ _ c.next-in-loop-block.ensures c.in-Some-next.is) c.loop-block.invariant) (sym c.pass_block.ensures ∙ c.in_err-ids-2.was)
+pub returns-in_err-tally-2 : goal.returns-in_err-tally-2
+returns-in_err-tally-2 c =
+    handed_back c.in_err-tally-2.field-0.0 c.from_residual-in_err-tally-2.result c.from_residual-in_err-tally-2.ensures
+    ∙ left_found _ _ (left_as (block_front _ _ c.next-in-loop-block.ensures.steps c.in-Some-block.is) c.loop-block.invariant) (sym c.pass_block.ensures ∙ c.in_err-tally-2.was)
 
 pub loop-block-preserved : goal.loop-block-preserved
-loop-block-preserved c = left_on _ (left_as (block_front _ _ c.next-in-loop-block.ensures c.in-Some-next.is) c.loop-block.invariant) (sym c.pass_block.ensures ∙ c.in_ok-ids-2.was)
+loop-block-preserved c = left_on _ (left_as (block_front _ _ c.next-in-loop-block.ensures.steps c.in-Some-block.is) c.loop-block.invariant) (sym c.pass_block.ensures ∙ c.in_ok-tally-2.was)
 
 pub returns : goal.returns
-returns c = nothing_left c.loop-block.invariant (no_block _ _ c.next-in-loop-block.ensures c.in_default-next.is)
+returns c = nothing_left c.loop-block.invariant (no_block _ _ c.next-in-loop-block.ensures.steps c.in-None-block.is)

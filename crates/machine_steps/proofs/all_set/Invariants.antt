@@ -4,7 +4,4 @@ use Rattle.machine_steps.proofs.Operands.{AskLeft}
 use Rattle.machine_steps.proofs.all_set.Given as goal
 
 abbrev pub invariant-loop-v : goal.invariant-loop-v
-invariant-loop-v l = AskLeft l.frame l.memory (ids_in l.values) (ids_in l.left)
-
-abbrev pub decreases-loop-v : goal.decreases-loop-v
-decreases-loop-v l = l.left.left
+invariant-loop-v l = AskLeft l.frame l.memory (ids_in l.values) (ids_in l.v-iterator)

@@ -1,6 +1,6 @@
 -- `verify::verify_instr`: by what the instruction is. Assumes nothing.
-use Rattle.verify_state.proofs.Steps.{handed_on}
-use Rattle.verify.proofs.Instrs.{const, binary, load, store, store_failed, state_read, state_write, read_local, write_local, write_local_failed, call, call_failed, assert, poseidon, poseidon_failed, emit, context_read}
+use Rattle.verify_state.proofs.Steps.{says_all}
+use Rattle.verify.proofs.Instrs.{const, binary, load, state_read, state_write, read_local, assert, emit, context_read, handed, second, store, write_local, call, poseidon}
 use Rattle.verify.proofs.verify_instr.Goals as goal
 
 pub returns-in-Const : goal.returns-in-Const
@@ -13,12 +13,10 @@ pub returns-in-Load : goal.returns-in-Load
 returns-in-Load c = load c.args.f c.in-Load.is c.check_use.ensures
 
 pub returns-in_err-check_use-in-Store : goal.returns-in_err-check_use-in-Store
-returns-in_err-check_use-in-Store c =
-    let r = c.from_residual in
-    rw (handed_on r.result c.in_err-check_use-in-Store.field-0.0 r.ensures) (store_failed c.args.f c.in-Store.is c.in_err-check_use-in-Store.ensures)
+returns-in_err-check_use-in-Store c = let r = c.from_residual in handed (store c.args.f c.in-Store.is) _ r.result r.ensures c.in_err-check_use-in-Store.ensures
 
 pub returns-in_ok-check_use-in-Store : goal.returns-in_ok-check_use-in-Store
-returns-in_ok-check_use-in-Store c = store c.args.f c.in-Store.is c.in_ok-check_use-in-Store.ensures c.check_use-in-Store-2.ensures
+returns-in_ok-check_use-in-Store c = second (store c.args.f c.in-Store.is) c.in_ok-check_use-in-Store.ensures c.check_use-in-Store-2.ensures
 
 pub returns-in-StateRead : goal.returns-in-StateRead
 returns-in-StateRead c = state_read c.args.f c.in-StateRead.is
@@ -30,31 +28,25 @@ pub returns-in-ReadLocal : goal.returns-in-ReadLocal
 returns-in-ReadLocal c = read_local c.args.f c.in-ReadLocal.is c.check_local.ensures
 
 pub returns-in_err-check_local-in-WriteLocal : goal.returns-in_err-check_local-in-WriteLocal
-returns-in_err-check_local-in-WriteLocal c =
-    let r = c.from_residual-in_err-check_local-in-WriteLocal in
-    rw (handed_on r.result c.in_err-check_local-in-WriteLocal.field-0.0 r.ensures) (write_local_failed c.args.f c.in-WriteLocal.is c.in_err-check_local-in-WriteLocal.ensures)
+returns-in_err-check_local-in-WriteLocal c = let r = c.from_residual-in_err-check_local-in-WriteLocal in handed (write_local c.args.f c.in-WriteLocal.is) _ r.result r.ensures (says_all _ c.in_err-check_local-in-WriteLocal.ensures)
 
 pub returns-in_ok-check_local-in-WriteLocal : goal.returns-in_ok-check_local-in-WriteLocal
-returns-in_ok-check_local-in-WriteLocal c = write_local c.args.f c.in-WriteLocal.is c.in_ok-check_local-in-WriteLocal.ensures c.check_use-in-WriteLocal.ensures
+returns-in_ok-check_local-in-WriteLocal c = second (write_local c.args.f c.in-WriteLocal.is) (says_all _ c.in_ok-check_local-in-WriteLocal.ensures) c.check_use-in-WriteLocal.ensures
 
 pub returns-in_err-check_function-in-Call : goal.returns-in_err-check_function-in-Call
-returns-in_err-check_function-in-Call c =
-    let r = c.from_residual-in_err-check_function-in-Call in
-    rw (handed_on r.result c.in_err-check_function-in-Call.field-0.0 r.ensures) (call_failed c.args.f c.in-Call.is c.in_err-check_function-in-Call.ensures)
+returns-in_err-check_function-in-Call c = let r = c.from_residual-in_err-check_function-in-Call in handed (call c.args.f c.in-Call.is) _ r.result r.ensures (says_all _ c.in_err-check_function-in-Call.ensures)
 
 pub returns-in_ok-check_function-in-Call : goal.returns-in_ok-check_function-in-Call
-returns-in_ok-check_function-in-Call c = call c.args.f c.in-Call.is c.in_ok-check_function-in-Call.ensures c.check_values.ensures
+returns-in_ok-check_function-in-Call c = second (call c.args.f c.in-Call.is) (says_all _ c.in_ok-check_function-in-Call.ensures) c.check_values.ensures
 
 pub returns-in-Assert : goal.returns-in-Assert
 returns-in-Assert c = assert c.args.f c.in-Assert.is c.check_use-in-Assert.ensures
 
 pub returns-in_err-check_use-in-Poseidon : goal.returns-in_err-check_use-in-Poseidon
-returns-in_err-check_use-in-Poseidon c =
-    let r = c.from_residual-in_err-check_use-in-Poseidon in
-    rw (handed_on r.result c.in_err-check_use-in-Poseidon.field-0.0 r.ensures) (poseidon_failed c.args.f c.in-Poseidon.is c.in_err-check_use-in-Poseidon.ensures)
+returns-in_err-check_use-in-Poseidon c = let r = c.from_residual-in_err-check_use-in-Poseidon in handed (poseidon c.args.f c.in-Poseidon.is) _ r.result r.ensures c.in_err-check_use-in-Poseidon.ensures
 
 pub returns-in_ok-check_use-in-Poseidon : goal.returns-in_ok-check_use-in-Poseidon
-returns-in_ok-check_use-in-Poseidon c = poseidon c.args.f c.in-Poseidon.is c.in_ok-check_use-in-Poseidon.ensures c.check_use-in-Poseidon-2.ensures
+returns-in_ok-check_use-in-Poseidon c = second (poseidon c.args.f c.in-Poseidon.is) c.in_ok-check_use-in-Poseidon.ensures c.check_use-in-Poseidon-2.ensures
 
 pub returns-in-Emit : goal.returns-in-Emit
 returns-in-Emit c = emit c.args.f c.in-Emit.is c.check_values-in-Emit.ensures

@@ -9,18 +9,18 @@ use Rattle.verify.proofs.Seconds.{function_failed, function_passed, functions_ov
 use Rattle.verify.proofs.verify_program.Goals as goal
 
 pub loop-function-init : goal.loop-function-init
-loop-function-init c = let E = c.functions-functions.ensures in (E.same_sheet, ap (λ (fs : List IrFunction). verify_functions fs (ids_of_all c.args.program.sheet.now)) E.is)
+loop-function-init c = let E = c.functions-function-items.ensures in rw c.into_iter-function-iterator.ensures.into_iter_gives ((E.same_sheet, ap (λ (fs : List IrFunction). verify_functions fs (ids_of_all c.args.program.sheet.now)) E.is))
 
 pub returns-in_err-verify_function : goal.returns-in_err-verify_function
 returns-in_err-verify_function c =
-    let F = c.in-Some.ensures in
+    let F = c.in-Some.ensures.steps in
     rw (handed_on c.from_residual.result c.in_err-verify_function.field-0.0 c.from_residual.ensures)
     (function_failed c.in-Some.function F.is (ap ids_of_all (F.sheet ∙ c.loop-function.invariant.0)) c.loop-function.invariant.1 c.in_err-verify_function.ensures)
 
 pub loop-function-preserved : goal.loop-function-preserved
 loop-function-preserved c =
-    let F = c.in-Some.ensures in
+    let F = c.in-Some.ensures.steps in
     (F.rest_sheet ∙ c.loop-function.invariant.0, function_passed c.in-Some.function F.is (ap ids_of_all (F.sheet ∙ c.loop-function.invariant.0)) c.loop-function.invariant.1 c.in_ok-verify_function.ensures)
 
 pub returns : goal.returns
-returns c = functions_over _ c.in_default.ensures c.loop-function.invariant.1
+returns c = functions_over _ c.in-None.ensures.steps.0 c.loop-function.invariant.1

@@ -1,5 +1,4 @@
 -- `verify_define::define_block`: the first instruction, or it is over. Assumes nothing.
-use mathlib.Core.Path.{sym}
 use Rattle.definitions.specs.Verify.{define_results}
 use Rattle.program_nodes.specs.Nodes.{node_in}
 use Rattle.verify_state.proofs.Steps.{handed_on}
@@ -7,20 +6,20 @@ use Rattle.verify_define.proofs.Firsts.{start, an_instr, a_term, result_failed, 
 use Rattle.verify_define.proofs.define_block.Goals as goal
 
 pub loop-record-init : goal.loop-record-init
-loop-record-init c = let E = c.records-records.ensures in start define_results E.definitions E.instrs
+loop-record-init c = let E = c.records-record-items.ensures in rw c.into_iter-record-iterator.ensures.into_iter_gives (start define_results E.definitions E.instrs)
 
 pub returns-in_err-define_result-in-Instr : goal.returns-in_err-define_result-in-Instr
 returns-in_err-define_result-in-Instr c =
-    let F = an_instr c.in-Some.ensures c.in-Instr.is in
+    let F = an_instr c.in-Some.ensures.steps c.in-Instr.is in
     rw (handed_on c.from_residual.result c.in_err-define_result-in-Instr.field-0.0 c.from_residual.ensures) (result_failed _ c.in-Instr.instr.at (node_in c.in-Instr.instr) F.definitions F.instrs c.loop-record.invariant c.in_err-define_result-in-Instr.ensures)
 
 pub loop-record-preserved : goal.loop-record-preserved
 loop-record-preserved c =
-    let F = an_instr c.in-Some.ensures c.in-Instr.is in
+    let F = an_instr c.in-Some.ensures.steps c.in-Instr.is in
     result_passed _ c.in-Instr.instr.at (node_in c.in-Instr.instr) F.definitions F.instrs c.loop-record.invariant c.in_ok-define_result-in-Instr.ensures
 
 pub returns-in-Term : goal.returns-in-Term
-returns-in-Term c = instrs_over (a_term c.next.new.self c.in-Some.ensures c.in-Term.is).instrs c.loop-record.invariant
+returns-in-Term c = instrs_over (a_term c.next.new.self c.in-Some.ensures.steps c.in-Term.is).instrs c.loop-record.invariant
 
 pub returns : goal.returns
-returns c = instrs_over (c.in_default.ensures).instrs c.loop-record.invariant
+returns c = instrs_over c.in-None.ensures.steps.0.instrs c.loop-record.invariant

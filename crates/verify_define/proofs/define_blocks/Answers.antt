@@ -5,15 +5,15 @@ use Rattle.verify_define.proofs.Firsts.{start, block_failed, block_passed, block
 use Rattle.verify_define.proofs.define_blocks.Goals as goal
 
 pub loop-block-init : goal.loop-block-init
-loop-block-init c = let E = c.blocks-blocks.ensures in start define_blocks E.same_definitions E.is
+loop-block-init c = let E = c.blocks-block-items.ensures in rw c.into_iter-block-iterator.ensures.into_iter_gives (start define_blocks E.same_definitions E.is)
 
 pub returns-in_err-define_block : goal.returns-in_err-define_block
 returns-in_err-define_block c =
-    let F = c.in-Some.ensures in
+    let F = c.in-Some.ensures.steps in
     rw (handed_on c.from_residual.result c.in_err-define_block.field-0.0 c.from_residual.ensures) (block_failed _ c.in-Some.block F.definitions F.is c.loop-block.invariant c.in_err-define_block.ensures)
 
 pub loop-block-preserved : goal.loop-block-preserved
-loop-block-preserved c = let F = c.in-Some.ensures in block_passed _ c.in-Some.block F.definitions F.is c.loop-block.invariant c.in_ok-define_block.ensures
+loop-block-preserved c = let F = c.in-Some.ensures.steps in block_passed _ c.in-Some.block F.definitions F.is c.loop-block.invariant c.in_ok-define_block.ensures
 
 pub returns : goal.returns
-returns c = blocks_over (c.in_default.ensures).0 c.loop-block.invariant
+returns c = blocks_over c.in-None.ensures.steps.0 c.loop-block.invariant

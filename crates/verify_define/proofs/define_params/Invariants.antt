@@ -5,7 +5,4 @@ use Rattle.verify_define.proofs.Firsts.{Rest}
 use Rattle.verify_define.proofs.define_params.Given as goal
 
 abbrev pub invariant-loop-param : goal.invariant-loop-param
-invariant-loop-param l = Rest l.f (params_of l.f) (define_params (ir_of l.f).params) (param_definitions_in l.params) (define_params (params_in l.params))
-
-abbrev pub decreases-loop-param : goal.decreases-loop-param
-decreases-loop-param l = l.params.left
+invariant-loop-param l = Rest l.f (params_of l.f) (define_params (ir_of l.f).params) (param_definitions_in l.param-iterator) (define_params (params_in l.param-iterator))

@@ -1,12 +1,8 @@
 -- `verify_lookup::find_block`: what is left of the blocks is searched. Assumes nothing.
 use mathlib.Core.Path.{◌≡◌}
-use Prim.Native.Nat.{◌-◌}
 use Rattle.definitions.specs.Ir.{find}
 use Rattle.program_nodes.specs.Nodes.{ir_of, blocks_in}
 use Rattle.verify_lookup.proofs.find_block.Given as goal
 
 abbrev pub invariant-loop-block : goal.invariant-loop-block
-invariant-loop-block l = (find l.b.0 (blocks_in l.blocks) ≡ find l.b.0 (ir_of l.f).blocks) × (l.blocks.sheet.now ≡ l.f.program.sheet.now)
-
-abbrev pub decreases-loop-block : goal.decreases-loop-block
-decreases-loop-block l = l.blocks.end - l.blocks.at
+invariant-loop-block l = (find l.b.0 (blocks_in l.block-iterator) ≡ find l.b.0 (ir_of l.f).blocks) × (l.block-iterator.sheet.now ≡ l.f.program.sheet.now)

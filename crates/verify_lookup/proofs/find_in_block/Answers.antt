@@ -4,13 +4,13 @@ use Rattle.verify_lookup.proofs.Searches.{instr_hit, instr_miss, nothing, is_val
 use Rattle.verify_lookup.proofs.find_in_block.Goals as goal
 
 pub returns-then-eq : goal.returns-then-eq
-returns-then-eq c = instr_hit _ _ _ _ _ (an_instr c.in-Some.ensures c.in-Instr.is).definitions (is_value c.result.result c.args.v (sym c.if-eq.ensures) ∙ c.result.ensures) ∙ c.loop-record.invariant
+returns-then-eq c = instr_hit _ _ _ _ _ (an_instr c.in-Some.ensures.steps c.in-Instr.is).definitions (is_value c.result.result c.args.v (sym c.if-eq.ensures) ∙ c.result.ensures) ∙ c.loop-record.invariant
 
 pub loop-record-preserved : goal.loop-record-preserved
-loop-record-preserved c = instr_miss _ _ _ _ _ (an_instr c.in-Some.ensures c.in-Instr.is).definitions (λ z. no_value c.result.result c.args.v (sym c.if-eq.ensures) (z ∙ sym c.result.ensures)) ∙ c.loop-record.invariant
+loop-record-preserved c = instr_miss _ _ _ _ _ (an_instr c.in-Some.ensures.steps c.in-Instr.is).definitions (λ z. no_value c.result.result c.args.v (sym c.if-eq.ensures) (z ∙ sym c.result.ensures)) ∙ c.loop-record.invariant
 
 pub returns-in-Term : goal.returns-in-Term
-returns-in-Term c = nothing _ (a_term c.next.new.self c.in-Some.ensures c.in-Term.is).definitions ∙ c.loop-record.invariant
+returns-in-Term c = nothing _ (a_term c.next.new.self c.in-Some.ensures.steps c.in-Term.is).definitions ∙ c.loop-record.invariant
 
 pub returns : goal.returns
-returns c = nothing _ (c.in_default.ensures).definitions ∙ c.loop-record.invariant
+returns c = nothing _ c.in-None.ensures.steps.0.definitions ∙ c.loop-record.invariant

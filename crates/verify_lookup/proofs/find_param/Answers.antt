@@ -6,10 +6,10 @@ use Rattle.verify_lookup.proofs.Searches.{hit, miss, nothing}
 use Rattle.verify_lookup.proofs.find_param.Goals as goal
 
 pub returns-then-eq : goal.returns-then-eq
-returns-then-eq c = hit (c.in-Some.ensures).definitions (sym c.value.ensures ∙ eqb-true _ _ (sym c.if-eq.ensures)) ∙ c.loop-param.invariant
+returns-then-eq c = hit c.in-Some.ensures.steps.definitions (sym c.value.ensures ∙ eqb-true _ _ (sym c.if-eq.ensures)) ∙ c.loop-param.invariant
 
 pub loop-param-preserved : goal.loop-param-preserved
-loop-param-preserved c = miss (c.in-Some.ensures).definitions (λ z. eqb-false _ _ (sym c.if-eq.ensures) (c.value.ensures ∙ z)) ∙ c.loop-param.invariant
+loop-param-preserved c = miss c.in-Some.ensures.steps.definitions (λ z. eqb-false _ _ (sym c.if-eq.ensures) (c.value.ensures ∙ z)) ∙ c.loop-param.invariant
 
 pub returns : goal.returns
-returns c = nothing _ (ap (param_definitions _) c.in_default.ensures) ∙ c.loop-param.invariant
+returns c = nothing _ (ap (param_definitions _) c.in-None.ensures.steps.0) ∙ c.loop-param.invariant

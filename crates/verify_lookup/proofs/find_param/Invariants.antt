@@ -5,7 +5,4 @@ use Rattle.program_nodes.specs.Nodes.{param_definitions_in, params_of}
 use Rattle.verify_lookup.proofs.find_param.Given as goal
 
 abbrev pub invariant-loop-param : goal.invariant-loop-param
-invariant-loop-param l = first_definition l.v.0 (param_definitions_in l.params) ≡ first_definition l.v.0 (params_of l.f)
-
-abbrev pub decreases-loop-param : goal.decreases-loop-param
-decreases-loop-param l = l.params.left
+invariant-loop-param l = first_definition l.v.0 (param_definitions_in l.param-iterator) ≡ first_definition l.v.0 (params_of l.f)

@@ -1,17 +1,16 @@
 -- `verify_refs::check_values`: the first is not defined, or the rest decides. Assumes nothing.
-use Rattle.program_nodes.specs.Nodes.{ids_in}
 use Rattle.verify_state.proofs.Steps.{handed_on}
 use Rattle.verify_refs.proofs.Values.{all_left, values_failed, values_passed, values_over}
 use Rattle.verify_refs.proofs.check_values.Goals as goal
 
 pub loop-v-init : goal.loop-v-init
-loop-v-init c = all_left _
+loop-v-init c = rw c.into_iter-v-iterator.ensures.into_iter_gives (all_left _)
 
 pub returns-in_err-check_value : goal.returns-in_err-check_value
-returns-in_err-check_value c = rw (handed_on c.from_residual.result c.in_err-check_value.field-0.0 c.from_residual.ensures) (values_failed _ _ (c.in-Some.ensures).is c.loop-v.invariant c.in_err-check_value.ensures)
+returns-in_err-check_value c = rw (handed_on c.from_residual.result c.in_err-check_value.field-0.0 c.from_residual.ensures) (values_failed _ _ c.in-Some.ensures.steps.is c.loop-v.invariant c.in_err-check_value.ensures)
 
 pub loop-v-preserved : goal.loop-v-preserved
-loop-v-preserved c = values_passed _ _ (c.in-Some.ensures).is c.loop-v.invariant c.in_ok-check_value.ensures
+loop-v-preserved c = values_passed _ _ c.in-Some.ensures.steps.is c.loop-v.invariant c.in_ok-check_value.ensures
 
 pub returns : goal.returns
-returns c = values_over c.in_default.ensures c.loop-v.invariant
+returns c = values_over c.in-None.ensures.steps.0 c.loop-v.invariant

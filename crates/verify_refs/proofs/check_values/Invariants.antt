@@ -5,7 +5,4 @@ use Rattle.verify_state.proofs.Steps.{Leads}
 use Rattle.verify_refs.proofs.check_values.Given as goal
 
 abbrev pub invariant-loop-v : goal.invariant-loop-v
-invariant-loop-v l = Leads l.f (check_value_refs (ids_in l.values)) (check_value_refs (ids_in l.left))
-
-abbrev pub decreases-loop-v : goal.decreases-loop-v
-decreases-loop-v l = l.left.left
+invariant-loop-v l = Leads l.f (check_value_refs (ids_in l.values)) (check_value_refs (ids_in l.v-iterator))

@@ -1,13 +1,15 @@
 -- `machine_slots::Ids::of`: no id was sought, so all of them were passed. Assumes nothing.
-use mathlib.Core.Path.{refl, sym, ◌∙◌, subst}
-use Rattle.std.specs.Prelude.{Result, IsOk}
+use mathlib.Core.Path.{refl, ap, sym, ◌∙◌, subst}
 use Prim.Native.Nat.{ℕ}
-use Rattle.machine_slots.proofs.Searching.{all_counted, same_ok}
-use Rattle.machine_slots.specs.declared.Ids.{Ids}
+use Rattle.std.specs.Prelude.{Result, IsOk}
+use Rattle.machine_slots.specs.declared.Tally.{Tally}
+use Rattle.machine_slots.proofs.Searching.{all_counted, tally_is}
 use Rattle.machine_slots.proofs.Ids.of.Goals as goal
 
-pub unwrap-requires : goal.unwrap-requires
-unwrap-requires c = subst (λ (r : Result Ids ℕ). IsOk r) (sym (c.search.ensures ∙ all_counted _)) refl
+pub unwrap-tally-requires : goal.unwrap-tally-requires
+unwrap-tally-requires c = subst (λ (r : Result Tally ℕ). IsOk r) (sym (c.search.ensures ∙ all_counted _)) refl
 
-pub returns : goal.returns
-returns c = let h = c.unwrap.ensures in same_ok (sym h ∙ (c.search.ensures ∙ all_counted _))
+pub invariant_of-result : goal.invariant_of-result
+invariant_of-result c =
+    let e = tally_is _ c.search.ensures c.unwrap-tally.ensures in
+    record { count_is = ap (λ (t : Tally). t.count) e; above_is = ap (λ (t : Tally). t.above) e }

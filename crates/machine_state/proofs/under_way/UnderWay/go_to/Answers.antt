@@ -10,11 +10,11 @@ use Rattle.machine_state.proofs.under_way.UnderWay.go_to.Goals as goal
 
 pub returns-in_err-block : goal.returns-in_err-block
 returns-in_err-block c =
-    nowhere _ _ _ (sym c.find_block.ensures.is ∙ ap (option_of block_in) (asked_none c.ok_or.ensures.ok_part c.in_err-block.was))
+    nowhere _ _ (sym c.find_block.ensures.is ∙ ap (option_of block_in) (asked_none c.ok_or.ensures.ok_part c.in_err-block.was))
     (halts_by _ _ c.in_err-block.field-0.0 _ c.from_residual.result c.ok_or.ensures.value c.ok_or.ensures.ok_part c.in_err-block.was c.from_residual.ensures)
 
 pub returns : goal.returns
 returns c =
     let s = asked_some c.ok_or.ensures.ok_part c.in_ok-block.was in
     somewhere _ _ _ (sym c.find_block.ensures.is ∙ ap (option_of block_in) s)
-    (subst (λ (o : Option Block). IfSome o (λ (b : Block). b.sheet.now ≡ c.args.self.now.frame.function.program.sheet.now)) s c.find_block.ensures.same_sheet) c.records.ensures
+    (subst (λ (o : Option Block). IfSome o (λ (b : Block). b.sheet.now ≡ c.args.self.now.frame.ids.function.program.sheet.now)) s c.find_block.ensures.same_sheet) c.records.ensures

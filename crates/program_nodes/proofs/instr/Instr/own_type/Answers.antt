@@ -1,26 +1,22 @@
 -- `program_nodes::instr::Instr::own_type`: at the offset of its kind. Assumes nothing.
-use mathlib.Core.Path.{◌≡◌, ap, ◌∙◌}
-use Prim.Native.Nat.{ℕ, ◌+◌}
+use mathlib.Core.Path.{◌≡◌}
 use native.Mathlib.Omega.{arith}
 use Rattle.format.specs.Kinds.{instr_number}
-use Rattle.program_nodes.specs.Positions.{type_here, type_offset}
+use Rattle.program_nodes.specs.Positions.{type_offset}
 use Rattle.program_nodes.proofs.KindNumbers.{type_first, type_second}
 use Rattle.program_nodes.proofs.Facts.{own_type_fits}
 use Rattle.program_nodes.proofs.instr.Instr.own_type.Goals as goal
-use Rattle.program_nodes.proofs.instr.Instr.own_type.Goals.{in-ReadLocal, in_default, After-row_known-1}
+use Rattle.program_nodes.proofs.instr.Instr.own_type.Goals.{in-ReadLocal, in_default, Joined-self}
 
-offset : (c : After-row_known-1) → type_offset (instr_number c.args.self.kind) ≡ c.match-self.offset
+offset : (c : Joined-self) → type_offset (instr_number c.args.self.kind) ≡ c.match-self.offset
 offset c =
     elim c.match-self.branch [
       | in-ReadLocal w ↦ rw w.offset-is (type_second c.args.self.kind w.in-ReadLocal.is)
       | in_default w ↦ rw w.offset-is (type_first c.args.self.kind c.requires w.in_default.not-ReadLocal w.in_default.not-Call)
     ]
 
-pub overflow_add-self : goal.overflow_add-self
-overflow_add-self c = omega (arith, own_type_fits c.args.self c.requires, offset c, c.ranges.self)
-
-pub type_at-requires : goal.type_at-requires
-type_at-requires c = omega (arith, own_type_fits c.args.self c.requires, offset c)
+pub ty-requires : goal.ty-requires
+ty-requires c = omega (arith, own_type_fits c.args.self c.requires, offset c)
 
 pub returns : goal.returns
-returns c = rw (offset (goal.at.returns c).After-row_known-1) c.type_at.ensures
+returns c = rw (offset (goal.at.returns c).Joined-self) c.ty.ensures

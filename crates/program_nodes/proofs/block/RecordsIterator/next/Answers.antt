@@ -1,16 +1,17 @@
--- `program_nodes::block::Records::next`: an instruction stands there, or the terminator, or nothing is left. Assumes nothing.
-use mathlib.Core.Path.{◌≡◌, refl, ap, ◌∙◌}
-use Prim.Native.Nat.{ℕ, ◌+◌}
+-- `program_nodes::block::RecordsIterator::next`: an instruction stands there, or the terminator, or nothing is left. Assumes nothing.
+use mathlib.Core.Path.{refl, ap, ◌∙◌}
+use Prim.Native.Nat.{ℕ, ◌+◌, ◌<◌}
 use native.Mathlib.Omega.{arith}
+use borrow.Author.Rules.{rules}
 use Rattle.definitions.proofs.Sheets.Steps.{low}
 use Rattle.program_nodes.proofs.Stand.{good, kept}
 use Rattle.program_nodes.proofs.KindNumbers.{instr_high, term_low, in_block_ok, in_block_is}
-use Rattle.program_nodes.proofs.Walk.{record_fits, rest_here, kind_there, instr_here_lem, term_here_lem}
+use Rattle.program_nodes.proofs.Walk.{record_fits, record_long, rest_here, kind_there, instr_here_lem, term_here_lem}
 use Rattle.program_nodes.proofs.Takes.{first_instr, first_term, no_record}
-use Rattle.program_nodes.proofs.block.Records.next.Goals as goal
+use Rattle.program_nodes.proofs.block.RecordsIterator.next.Goals as goal
 
-pub returns-then-self-at : goal.returns-then-self-at
-returns-then-self-at c = let w = c.args.self.now in no_record w (omega (arith, low (kept w.here.0), c.if-self-at.true))
+pub returns-then-self-at-clause-steps : goal.returns-then-self-at-clause-steps
+returns-then-self-at-clause-steps c = let w = c.args.self.now in (no_record w (omega (arith, low (kept w.here.0), c.if-self-at.true)), refl)
 
 pub read-requires : goal.read-requires
 read-requires c = let w = c.args.self.now in (omega (arith, record_fits (kept w.here.0) c.if-self-at.false, w.here.1), omega arith)
@@ -38,15 +39,27 @@ invariant_of-result-in-Terminator c =
     let T = term_here_lem (kept w.here.0) c.if-self-at.false (omega (arith, k, term_low c.in-Terminator.kind)) in
     record { here = ((rw (c.read.ensures.0, ← T.stop_is) (good T.alone), omega (arith, c.read.ensures.0, T.stop_is, w.here.1)), k) }
 
-pub returns-in-Instruction : goal.returns-in-Instruction
-returns-in-Instruction c =
+pub returns-in-Instruction-clause-steps : goal.returns-in-Instruction-clause-steps
+returns-in-Instruction-clause-steps c =
     let w = c.args.self.now in
     let k = in_block_is c.try_from.ensures c.unwrap.ensures c.in-Instruction.is ∙ c.read_u16.ensures in
     let e = ap (λ (x : ℕ). w.at + x) c.read.ensures.0 in
     first_instr (instr_here_lem (kept w.here.0) c.if-self-at.false (omega (arith, k, instr_high c.in-Instruction.kind))) refl refl e k refl e refl
 
-pub returns-in-Terminator : goal.returns-in-Terminator
-returns-in-Terminator c =
+pub returns-in-Terminator-clause-steps : goal.returns-in-Terminator-clause-steps
+returns-in-Terminator-clause-steps c =
     let w = c.args.self.now in
     let k = in_block_is c.try_from.ensures c.unwrap.ensures c.in-Terminator.is ∙ c.read_u16.ensures in
     first_term (term_here_lem (kept w.here.0) c.if-self-at.false (omega (arith, k, term_low c.in-Terminator.kind))) refl refl k
+
+pub returns-in-Instruction-clause-goes : goal.returns-in-Instruction-clause-goes
+returns-in-Instruction-clause-goes c =
+    let w = c.args.self.now in
+    let more : w.at < w.at + c.read.result = omega (arith, record_long (kept w.here.0) c.if-self-at.false, c.read.ensures.0) in
+    search rules
+
+pub returns-in-Terminator-clause-goes : goal.returns-in-Terminator-clause-goes
+returns-in-Terminator-clause-goes c =
+    let w = c.args.self.now in
+    let more : w.at < w.at + c.read.result = omega (arith, record_long (kept w.here.0) c.if-self-at.false, c.read.ensures.0) in
+    search rules

@@ -1,15 +1,18 @@
--- `program_nodes::program::Functions::next`: a function stands there, or none is left. Assumes nothing.
-use mathlib.Core.Path.{◌≡◌, refl, ap, sym, ◌∙◌, subst}
-use Prim.Native.Nat.{ℕ, ◌+◌}
+-- `program_nodes::program::FunctionsIterator::next`: a function stands there, or none is left. Assumes nothing.
+use mathlib.Core.Path.{refl, ap, sym, ◌∙◌, subst}
+use Prim.Native.Nat.{ℕ, ◌+◌, ◌<◌}
 use native.Mathlib.Omega.{arith}
+use lib.ListN.{length}
+use borrow.Author.Rules.{rules}
+use Rattle.definitions.proofs.Sheets.Steps.{low}
 use Rattle.program_nodes.specs.Standing.{FunctionsStand}
 use Rattle.program_nodes.proofs.Stand.{good, kept}
 use Rattle.program_nodes.proofs.FunctionSteps.{head_there, function_here_lem, no_functions, function_fits, first_is}
 use Rattle.program_nodes.proofs.Takes.{within, function_there, first_function}
-use Rattle.program_nodes.proofs.program.Functions.next.Goals as goal
+use Rattle.program_nodes.proofs.program.FunctionsIterator.next.Goals as goal
 
-pub returns-then-len-at : goal.returns-then-len-at
-returns-then-len-at c = no_functions (kept c.args.self.now.here) (λ h k. omega (arith, h, c.len.ensures, c.if-len-at.true))
+pub returns-then-len-at-clause-steps : goal.returns-then-len-at-clause-steps
+returns-then-len-at-clause-steps c = (no_functions (kept c.args.self.now.here) (λ h k. omega (arith, h, c.len.ensures, c.if-len-at.true)), refl)
 
 pub overflow_add-at : goal.overflow_add-at
 overflow_add-at c = omega (arith, head_there (kept c.args.self.now.here) (within c.len.ensures c.if-len-at.false), c.len.ensures, c.len.type_inv)
@@ -17,8 +20,8 @@ overflow_add-at c = omega (arith, head_there (kept c.args.self.now.here) (within
 pub read_u16-requires : goal.read_u16-requires
 read_u16-requires c = omega (arith, head_there (kept c.args.self.now.here) (within c.len.ensures c.if-len-at.false))
 
-pub returns-then-read_u16-from : goal.returns-then-read_u16-from
-returns-then-read_u16-from c = no_functions (kept c.args.self.now.here) (λ h k. c.if-read_u16-from.true (c.read_u16.ensures ∙ (k ∙ sym c.from.ensures)))
+pub returns-then-read_u16-from-clause-steps : goal.returns-then-read_u16-from-clause-steps
+returns-then-read_u16-from-clause-steps c = (no_functions (kept c.args.self.now.here) (λ h k. c.if-read_u16-from.true (c.read_u16.ensures ∙ (k ∙ sym c.from.ensures))), refl)
 
 pub locals_at-locals-requires : goal.locals_at-locals-requires
 locals_at-locals-requires c = omega (arith, function_fits (function_there c.args.self.now (within c.len.ensures c.if-len-at.false) c.read_u16.ensures c.if-read_u16-from.false c.from.ensures))
@@ -47,8 +50,16 @@ invariant_of-self c =
     let F = function_here_lem (function_there w (within c.len.ensures c.if-len-at.false) c.read_u16.ensures c.if-read_u16-from.false c.from.ensures) in
     record { here = subst (λ (x : ℕ). FunctionsStand w.program.sheet.now (w.at + x)) (sym c.read-2.ensures.0) (good F.next) }
 
-pub returns : goal.returns
-returns c =
+pub returns-clause-steps : goal.returns-clause-steps
+returns-clause-steps c =
     let w = c.args.self.now in
     let e = ap (λ (x : ℕ). w.at + x) c.read-2.ensures.0 in
     first_function (function_there w (within c.len.ensures c.if-len-at.false) c.read_u16.ensures c.if-read_u16-from.false c.from.ensures) refl refl (first_is _ w.at _ c.locals_at-locals.ensures c.read.ensures.0) e refl e
+
+pub returns-clause-goes : goal.returns-clause-goes
+returns-clause-goes c =
+    let w = c.args.self.now in
+    let F = function_here_lem (function_there w (within c.len.ensures c.if-len-at.false) c.read_u16.ensures c.if-read_u16-from.false c.from.ensures) in
+    let more : w.at < w.at + c.read-2.result = omega (arith, F.low, low F.blocks, c.read-2.ensures.0) in
+    let inside : w.at < length w.program.sheet.now = within c.len.ensures c.if-len-at.false in
+    search rules
