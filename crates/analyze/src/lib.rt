@@ -6,13 +6,12 @@ ghost use Rattle.definitions.specs.Answers.{analyze_sheet};
 ghost use Rattle.definitions.specs.Analyze.{param_env};
 ghost use Rattle.ir.specs.Answers.{done_of};
 ghost use Rattle.contract_nodes.specs.Nodes.{contract_in, function_in};
-ghost use Rattle.analyze_env.specs.Names.{Names};
 ghost use Rattle.analyze_walk.specs.Stops.{check_function, check_functions};
 ghost use Rattle.analyze_state.specs.Errors.{error_of};
 ghost use Rattle.analyze_state.specs.State.{sheet_of, contract_of, OfSheet};
 ghost use Rattle.analyze.specs.Whole.{answer_of, Empty};
 
-use analyze_env::{ALL, Env, FEW, Ty};
+use analyze_env::{ALL, Entry, Env, FEW, Link, Ty};
 use analyze_state::{Analyzer, SemaError};
 use analyze_stmts::analyze_stmts;
 use contract_lookup::items::{Functions, Structs};
@@ -119,8 +118,8 @@ fn analyze_with<const NAMES: usize, const CHAINS: usize>(
     requires chains { (1024 ≤ CHAINS) × (CHAINS ≤ 65536) }
     ensures { done_of error_of result ≡ check_functions (contract_in contract.entry) (contract_in contract.entry).functions }
 {
-    let mut entries = [0u64; NAMES];
-    let mut heads = [0u16; CHAINS];
+    let mut entries = [Entry::BLANK; NAMES];
+    let mut heads = [Link::NONE; CHAINS];
     let mut env = Env::new(&mut entries, &mut heads);
     analyze_functions(contract, &mut env)
 }

@@ -11,11 +11,14 @@ use lib.Seq.{get_or-set_same, get_or-set_other}
 use borrow.Author.Tests.{eq-eqb, ne_eqb}
 use Rattle.definitions.specs.Analyze.{Ty, Env, get, insert}
 use Rattle.definitions.proofs.Results.{by_eq}
-use Rattle.analyze_env.specs.Entries.{name_in, link_in, ty_in, env_of, chain_of, chain_at, newest, Known}
+use Rattle.analyze_env.specs.Types.{as_ty}
+use Rattle.analyze_env.specs.Entries.{no_link, blank, entry_at, position_of, env_of, chain_of, chain_at, newest, Known}
+use Rattle.analyze_env.specs.declared.Link.{Link}
+use Rattle.analyze_env.specs.declared.Entry.{Entry}
 use Rattle.analyze_env.specs.Names.{Names, named, truncated}
 
 -- THE NEWEST OF A CHAIN, of w chains
-module _ (w : ℕ) (l : List ℕ) (b : ℕ) where
+module _ (w : ℕ) (l : List Entry) (b : ℕ) where
   this_one : (k : ℕ) → chain_at w l k ≡ b → newest w l b (suc k) ≡ suc k
   unfolding newest
   this_one k q = rw (eq-eqb (chain_at w l k) b q)
@@ -37,15 +40,24 @@ module _ (w : ℕ) (l : List ℕ) (b : ℕ) where
       (λ q. let e : newest w l b (suc k) - 1 ≡ k = omega (arith, this_one k q) in ap (chain_at w l) e ∙ q)
       (λ u. ap (λ i. chain_at w l (i - 1)) (not_this k u) ∙ newest_chain k (omega (arith, not_this k u)))
 
--- LOOKING A NAME UP
-module _ (l : List ℕ) (n : ℕ) where
-  this_name : (k : ℕ) → name_in (get_or l k 0) ≡ n → some (ty_in (get_or l k 0)) ≡ get n (env_of l (suc k))
-  unfolding env_of
-  this_name k q = rw (eq-eqb (name_in (get_or l k 0)) n q, get)
+-- A LINK
+is_next : (n : ℕ) {i : ℕ} → some i ≡ position_of n → n ≡ i + 1
+is_next zero e = absurd cc
+is_next (suc n) {i} e = let q : i ≡ n = cc in omega arith
 
-  other_name : (k : ℕ) → (name_in (get_or l k 0) ≡ n → ⊥) → get n (env_of l (suc k)) ≡ get n (env_of l k)
+is_none : (n : ℕ) → none ≡ position_of n → n ≡ 0
+is_none zero e = refl
+is_none (suc n) e = absurd cc
+
+-- LOOKING A NAME UP
+module _ (l : List Entry) (n : ℕ) where
+  this_name : (k : ℕ) → (entry_at l k).name.0 ≡ n → some (as_ty (entry_at l k).ty) ≡ get n (env_of l (suc k))
   unfolding env_of
-  other_name k u = rw (ne_eqb (name_in (get_or l k 0)) n u, get)
+  this_name k q = rw (eq-eqb ((entry_at l k).name.0) n q, get)
+
+  other_name : (k : ℕ) → ((entry_at l k).name.0 ≡ n → ⊥) → get n (env_of l (suc k)) ≡ get n (env_of l k)
+  unfolding env_of
+  other_name k u = rw (ne_eqb ((entry_at l k).name.0) n u, get)
 
   no_name : none ≡ get n (env_of l 0)
   unfolding env_of
@@ -60,44 +72,50 @@ module _ (l : List ℕ) (n : ℕ) where
       (λ u. ap (λ i. get n (env_of l i)) (not_this w l (chain_of w n) k u) ∙ (newest_get w k ∙ sym (other_name k (λ e. u (ap (chain_of w) e)))))
 
 -- what is left below i gives what all entries give, and i is an entry of the name's chain
-pub record Looking (w : ℕ) (l : List ℕ) (count n i : ℕ) : Type 0 where
+pub record Looking (w : ℕ) (l : List Entry) (count n i : ℕ) : Type 0 where
   pub low : i ≤ count
   pub chain : 0 < i → chain_at w l (i - 1) ≡ chain_of w n
   pub same : get n (env_of l i) ≡ get n (env_of l count)
 
-at_newest : (w : ℕ) (l : List ℕ) (count n k : ℕ) → k ≤ count → get n (env_of l k) ≡ get n (env_of l count) → Looking w l count n (newest w l (chain_of w n) k)
+at_newest : (w : ℕ) (l : List Entry) (count n k : ℕ) → k ≤ count → get n (env_of l k) ≡ get n (env_of l count) → Looking w l count n (newest w l (chain_of w n) k)
 at_newest w l count n k h e = record {
   low = omega (arith, newest_low w l (chain_of w n) k);
   chain = newest_chain w l (chain_of w n) k;
   same = newest_get l n w k ∙ e;
 }
 
-pub begun : {l heads : List ℕ} {count b n : ℕ} → Known l heads count → (b ≡ chain_of (length heads) n) × (b < length heads) → Looking (length heads) l count n (get_or heads b 0)
+pub begun : {l : List Entry} {heads : List Link} {count b n : ℕ} → Known l heads count → (b ≡ chain_of (length heads) n) × (b < length heads) → Looking (length heads) l count n (get_or heads b no_link).0
 begun {l} {heads} {count} {b} {n} K (of, in_reach) = rw (K.head b in_reach, of) (at_newest (length heads) l count n count (omega arith) refl)
 
-pub none_left : {w : ℕ} {l : List ℕ} {count n i : ℕ} → Looking w l count n i → i ≤ 0 → none ≡ get n (env_of l count)
-none_left {w} {l} {count} {n} {i} G h = let e : i ≡ 0 = omega arith in no_name l n ∙ rw e at G.same
+pub none_left : {w : ℕ} {l : List Entry} {count n i : ℕ} → Looking w l count n i → none ≡ position_of i → none ≡ get n (env_of l count)
+none_left {w} {l} {count} {n} {i} G h = let e : i ≡ 0 = is_none i h in no_name l n ∙ rw e at G.same
 
-module _ {l heads : List ℕ} {count n i : ℕ} (K : Known l heads count) (G : Looking (length heads) l count n i) (h : 0 < i) where
-  same_here : get n (env_of l (suc (i - 1))) ≡ get n (env_of l count)
-  same_here = let e : suc (i - 1) ≡ i = omega arith in rw e G.same
+-- a link that is i + 1
+module _ {l : List Entry} {heads : List Link} {count n m i : ℕ} (K : Known l heads count) (G : Looking (length heads) l count n m) (to : some i ≡ position_of m) where
+  next : m ≡ i + 1
+  next = is_next m to
 
-  pub hit : name_in (get_or l (i - 1) 0) ≡ n → some (ty_in (get_or l (i - 1) 0)) ≡ get n (env_of l count)
-  hit q = this_name l n (i - 1) q ∙ same_here
+  same_here : get n (env_of l (suc i)) ≡ get n (env_of l count)
+  same_here = let e : suc i ≡ m = omega (arith, next) in rw e G.same
 
-  linked_to : link_in (get_or l (i - 1) 0) ≡ newest (length heads) l (chain_of (length heads) n) (i - 1)
-  linked_to = K.link (i - 1) (omega (arith, G.low)) ∙ ap (λ b. newest (length heads) l b (i - 1)) (G.chain h)
+  pub hit : (entry_at l i).name.0 ≡ n → some (as_ty (entry_at l i).ty) ≡ get n (env_of l count)
+  hit q = this_name l n i q ∙ same_here
 
-  pub falls : link_in (get_or l (i - 1) 0) < i
-  falls = omega (arith, linked_to, newest_low (length heads) l (chain_of (length heads) n) (i - 1))
+  linked_to : (entry_at l i).link.0 ≡ newest (length heads) l (chain_of (length heads) n) i
+  linked_to =
+      let e : m - 1 ≡ i = omega (arith, next) in
+      K.link i (omega (arith, G.low, next)) ∙ ap (λ b. newest (length heads) l b i) (rw e at G.chain (omega (arith, next)))
 
-  pub miss : (name_in (get_or l (i - 1) 0) ≡ n → ⊥) → Looking (length heads) l count n (link_in (get_or l (i - 1) 0))
-  miss u = rw linked_to (at_newest (length heads) l count n (i - 1) (omega (arith, G.low)) (sym (other_name l n (i - 1) u) ∙ same_here))
+  pub falls : (entry_at l i).link.0 < m
+  falls = omega (arith, next, linked_to, newest_low (length heads) l (chain_of (length heads) n) i)
+
+  pub miss : ((entry_at l i).name.0 ≡ n → ⊥) → Looking (length heads) l count n (entry_at l i).link.0
+  miss u = rw linked_to (at_newest (length heads) l count n i (omega (arith, G.low, next)) (sym (other_name l n i u) ∙ same_here))
 
 -- A STORE: entries below its place do not see it
-module _ (l : List ℕ) (n e : ℕ) where
-  below_set : (i : ℕ) → i < n → get_or (set l n e) i 0 ≡ get_or l i 0
-  below_set i h = get_or-set_other l n i e 0 (λ q. omega arith)
+module _ (l : List Entry) (n : ℕ) (e : Entry) where
+  below_set : (i : ℕ) → i < n → entry_at (set l n e) i ≡ entry_at l i
+  below_set i h = get_or-set_other l n i e blank (λ q. omega arith)
 
   env_set : (k : ℕ) → k ≤ n → env_of (set l n e) k ≡ env_of l k
   unfolding env_of
@@ -110,35 +128,35 @@ module _ (l : List ℕ) (n e : ℕ) where
   newest_set w b (suc k) h = rw (below_set k (omega arith), newest_set w b k (omega arith))
 
 -- heads that are right but for b are right with what is right for b stored there
-stored : (heads : List ℕ) (b v : ℕ) (right : ℕ → ℕ) → v ≡ right b → ((i : ℕ) → i < length heads → (i ≡ b → ⊥) → get_or heads i 0 ≡ right i)
-    → (i : ℕ) → i < length heads → get_or (set heads b v) i 0 ≡ right i
+stored : (heads : List Link) (b : ℕ) (v : Link) (right : ℕ → ℕ) → v.0 ≡ right b → ((i : ℕ) → i < length heads → (i ≡ b → ⊥) → (get_or heads i no_link).0 ≡ right i)
+    → (i : ℕ) → i < length heads → (get_or (set heads b v) i no_link).0 ≡ right i
 stored heads b v right at_b others i h =
     by_eq i b
-    (λ q. rw q (get_or-set_same heads b v 0 (omega arith) ∙ at_b))
-    (λ u. get_or-set_other heads b i v 0 u ∙ others i h u)
+    (λ q. rw q (ap (λ (x : Link). x.0) (get_or-set_same heads b v no_link (omega arith)) ∙ at_b))
+    (λ u. ap (λ (x : Link). x.0) (get_or-set_other heads b i v no_link u) ∙ others i h u)
 
 -- one name more: what was known before is known as it was
-pub record Inserted (l heads : List ℕ) (n name : ℕ) (t : Ty) (l₁ heads₁ : List ℕ) : Type 0 where
+pub record Inserted (l : List Entry) (heads : List Link) (n name : ℕ) (t : Ty) (l₁ : List Entry) (heads₁ : List Link) : Type 0 where
   pub known : Known l₁ heads₁ (n + 1)
   pub more : env_of l₁ (n + 1) ≡ insert name t (env_of l n)
   pub long : length l₁ ≡ length l
 
 -- ONE MORE
-module _ {l heads : List ℕ} {n name : ℕ} {t : Ty} {b : ℕ} (e : ℕ) (K : Known l heads n) (room : n < length l)
-    (chain-is : (b ≡ chain_of (length heads) name) × (b < length heads)) (entry-is : (name_in e ≡ name) × (link_in e ≡ get_or heads b 0) × (ty_in e ≡ t)) where
-  here : get_or (set l n e) n 0 ≡ e
-  here = get_or-set_same l n e 0 room
+module _ {l : List Entry} {heads : List Link} {n name : ℕ} {t : Ty} {b : ℕ} (e : Entry) (to : Link) (K : Known l heads n) (room : n < length l)
+    (chain-is : (b ≡ chain_of (length heads) name) × (b < length heads)) (entry-is : (e.name.0 ≡ name) × (e.link.0 ≡ (get_or heads b no_link).0) × (as_ty e.ty ≡ t)) (to-is : to.0 ≡ n + 1) where
+  here : entry_at (set l n e) n ≡ e
+  here = get_or-set_same l n e blank room
 
   chain_here : chain_at (length heads) (set l n e) n ≡ b
   chain_here = rw (here, entry-is.0) (sym chain-is.0)
 
-  head_after : (i : ℕ) → i < length heads → get_or (set heads b (n + 1)) i 0 ≡ newest (length heads) (set l n e) i (n + 1)
+  head_after : (i : ℕ) → i < length heads → (get_or (set heads b to) i no_link).0 ≡ newest (length heads) (set l n e) i (n + 1)
   head_after =
-      stored heads b (n + 1) (λ i. newest (length heads) (set l n e) i (n + 1))
-      (rw add-one (sym (this_one (length heads) (set l n e) b n chain_here)))
+      stored heads b to (λ i. newest (length heads) (set l n e) i (n + 1))
+      (rw (to-is, add-one) (sym (this_one (length heads) (set l n e) b n chain_here)))
       (λ i h u. rw add-one (K.head i h ∙ sym (not_this (length heads) (set l n e) i n (λ q. u (sym q ∙ chain_here)) ∙ newest_set l n e (length heads) i n (omega arith))))
 
-  link_after : (i : ℕ) → i < n + 1 → link_in (get_or (set l n e) i 0) ≡ newest (length heads) (set l n e) (chain_at (length heads) (set l n e) i) i
+  link_after : (i : ℕ) → i < n + 1 → (entry_at (set l n e) i).link.0 ≡ newest (length heads) (set l n e) (chain_at (length heads) (set l n e) i) i
   link_after i h =
       by_eq i n
       (λ q. rw (q, chain_here, newest_set l n e (length heads) b n (omega arith), here) (entry-is.1 ∙ K.head b chain-is.1))
@@ -146,7 +164,7 @@ module _ {l heads : List ℕ} {n name : ℕ} {t : Ty} {b : ℕ} (e : ℕ) (K : K
       let v : i < n = omega arith in
       rw (below_set l n e i v, newest_set l n e (length heads) (chain_at (length heads) l i) i (omega arith)) (K.link i v))
 
-  pub inserted : Inserted l heads n name t (set l n e) (set heads b (n + 1))
+  pub inserted : Inserted l heads n name t (set l n e) (set heads b to)
   unfolding env_of
   inserted = record {
     known = record {
@@ -161,15 +179,15 @@ module _ {l heads : List ℕ} {n name : ℕ} {t : Ty} {b : ℕ} (e : ℕ) (K : K
   }
 
 -- ONE LESS
-module _ {l heads : List ℕ} {n b : ℕ} (K : Known l heads n) (h : 0 < n) (chain-is : (b ≡ chain_at (length heads) l (n - 1)) × (b < length heads)) where
-  head_before : (i : ℕ) → i < length heads → get_or (set heads b (link_in (get_or l (n - 1) 0))) i 0 ≡ newest (length heads) l i (n - 1)
+module _ {l : List Entry} {heads : List Link} {n b : ℕ} (K : Known l heads n) (h : 0 < n) (chain-is : (b ≡ chain_at (length heads) l (n - 1)) × (b < length heads)) where
+  head_before : (i : ℕ) → i < length heads → (get_or (set heads b (entry_at l (n - 1)).link) i no_link).0 ≡ newest (length heads) l i (n - 1)
   head_before =
       let e : n ≡ suc (n - 1) = omega arith in
-      stored heads b (link_in (get_or l (n - 1) 0)) (λ i. newest (length heads) l i (n - 1))
+      stored heads b (entry_at l (n - 1)).link (λ i. newest (length heads) l i (n - 1))
       (rw chain-is.0 (K.link (n - 1) (omega arith)))
       (λ i g u. K.head i g ∙ (ap (newest (length heads) l i) e ∙ not_this (length heads) l i (n - 1) (λ q. u (sym q ∙ sym chain-is.0))))
 
-  pub dropped : Known l (set heads b (link_in (get_or l (n - 1) 0))) (n - 1)
+  pub dropped : Known l (set heads b (entry_at l (n - 1)).link) (n - 1)
   dropped = record {
     room = omega (arith, K.room);
     short = K.short;
@@ -178,28 +196,28 @@ module _ {l heads : List ℕ} {n b : ℕ} (K : Known l heads n) (h : 0 < n) (cha
     link = simp length-set (λ i g. K.link i (omega arith));
   }
 
--- NONE: heads that are zeros, and those of `[0; n]`
-pub none_known : (l heads : List ℕ) → length l ≤ 65535 → 1024 ≤ length heads → ((i : ℕ) → i < length heads → get_or heads i 0 ≡ 0) → Known l heads 0
+-- NONE: heads that are no links, and those of an array of them
+pub none_known : (l : List Entry) (heads : List Link) → length l ≤ 65535 → 1024 ≤ length heads → ((i : ℕ) → i < length heads → (get_or heads i no_link).0 ≡ 0) → Known l heads 0
 unfolding newest
 none_known l heads short wide zeros = record { room = omega arith; short = short; wide = wide; head = zeros; link = λ i h. absurd (omega arith) }
 
-pub zeros_known : (l : List ℕ) (n : ℕ) → length l ≤ 65535 → 1024 ≤ n → Known l (replicate n 0) 0
-zeros_known l n short wide =
-    none_known l (replicate n 0) short (rw length-replicate wide) (λ i h. get_or-replicate n i 0 0 (omega (arith, length-replicate {A = ℕ} n 0)))
+pub none_linked : (l : List Entry) (n : ℕ) → length l ≤ 65535 → 1024 ≤ n → Known l (replicate n no_link) 0
+none_linked l n short wide =
+    none_known l (replicate n no_link) short (rw length-replicate wide) (λ i h. ap (λ (x : Link). x.0) (get_or-replicate n i no_link no_link (omega (arith, length-replicate {A = Link} n no_link))))
 
 -- WHAT A CONTRACT SEES
-pub env_length : (l : List ℕ) (n : ℕ) → length (env_of l n) ≡ n
+pub env_length : (l : List Entry) (n : ℕ) → length (env_of l n) ≡ n
 unfolding env_of
 env_length l zero = refl
 env_length l (suc n) = omega (arith, env_length l n)
 
-env_drop : (l : List ℕ) (m k n : ℕ) → n ≡ k + m → drop k (env_of l n) ≡ env_of l m
+env_drop : (l : List Entry) (m k n : ℕ) → n ≡ k + m → drop k (env_of l n) ≡ env_of l m
 unfolding env_of
 env_drop l m zero n e = let q : n ≡ m = omega arith in rw q
 env_drop l m (suc k) zero e = absurd (omega arith)
 env_drop l m (suc k) (suc n) e = env_drop l m k n (omega arith)
 
-module _ (l : List ℕ) (n : ℕ) {v : Names} (view-is : record { names = env_of l n; room = length l } ≡ v) where
+module _ (l : List Entry) (n : ℕ) {v : Names} (view-is : record { names = env_of l n; room = length l } ≡ v) where
   pub names_are : env_of l n ≡ v.names
   names_are = ap (λ (w : Names). w.names) view-is
 
@@ -213,5 +231,5 @@ module _ (l : List ℕ) (n : ℕ) {v : Names} (view-is : record { names = env_of
   cut m h =
       rw (← view-is, env_length l n) (ap (λ (es : Env). record { names = es; room = length l }) (sym (env_drop l m (n - m) n (omega arith))))
 
-  pub more_is : {heads l₁ heads₁ : List ℕ} {name : ℕ} {t : Ty} → Inserted l heads n name t l₁ heads₁ → record { names = env_of l₁ (n + 1); room = length l₁ } ≡ named name t v
+  pub more_is : {heads : List Link} {l₁ : List Entry} {heads₁ : List Link} {name : ℕ} {t : Ty} → Inserted l heads n name t l₁ heads₁ → record { names = env_of l₁ (n + 1); room = length l₁ } ≡ named name t v
   more_is I = rw (← view-is, I.more, I.long)

@@ -1,2 +1,1 @@
-mod Packed
 pub mod Chains

@@ -1,42 +1,51 @@
--- The names that are known, as the code keeps them: a number for each, newest last, and for each chain of names its newest. Assumes nothing: these are
+-- The names that are known, as the code keeps them: an entry for each, newest last, and for each chain of names its newest. Assumes nothing: these are
 -- definitions.
-use Rattle.std.specs.Prelude.{ℕ, zero, suc, ◌/◌, ◌%◌, ◌≤◌, ◌<◌, ◌≡◌, List, [], ◌∷◌, eqb, ltb, length, get_or}
+use Rattle.std.specs.Prelude.{ℕ, zero, suc, ◌%◌, ◌≤◌, ◌<◌, ◌≡◌, List, [], ◌∷◌, eqb, ltb, length, get_or}
+use Rattle.std.proofs.Math.Option as maths
 use Rattle.definitions.specs.Records.{pick}
 use Rattle.definitions.specs.Analyze as analyze
-use Rattle.analyze_env.specs.Types.{ty_from}
+use Rattle.analyze_env.specs.Types.{as_ty}
+use Rattle.analyze_env.specs.declared.Link.{Link}
+use Rattle.analyze_env.specs.declared.Entry.{Entry}
+use Rattle.analyze_env.specs.declared.Ty.TheVariants as ty
 
--- an entry: sixteen bits each for the name and the link, thirty-two for the type's number
-unfoldable pub name_in : ℕ → ℕ
-name_in e = e % 65536
+-- a link has the position of an entry and one; 0 is none
+abbrev pub position_of : ℕ → maths.Option ℕ
+position_of zero = maths.none
+position_of (suc i) = maths.some i
 
-unfoldable pub link_in : ℕ → ℕ
-link_in e = e / 65536 % 65536
+abbrev pub no_link : Link
+no_link = record { 0 = 0 }
 
-unfoldable pub ty_in : ℕ → analyze.Ty
-ty_in e = ty_from (e / 4294967296)
+-- what is not read
+abbrev pub blank : Entry
+blank = record { name = record { 0 = 0 }; link = no_link; ty = ty.Unknown }
+
+abbrev pub entry_at : List Entry → ℕ → Entry
+entry_at l i = get_or l i blank
 
 -- THE READING: the first n entries, newest first
-unfoldable pub env_of : List ℕ → ℕ → analyze.Env
+unfoldable pub env_of : List Entry → ℕ → analyze.Env
 env_of l zero = []
-env_of l (suc n) = (name_in (get_or l n 0), ty_in (get_or l n 0)) ∷ env_of l n
+env_of l (suc n) = ((entry_at l n).name.0, as_ty (entry_at l n).ty) ∷ env_of l n
 
 -- the chain of a name: with 65,536 chains, its own
 unfoldable pub chain_of : (chains name : ℕ) → ℕ
 chain_of chains name = pick (ltb chains 65536) (name % 1024) name
 
 -- the chain of the entry at i
-abbrev pub chain_at : (chains : ℕ) → List ℕ → ℕ → ℕ
-chain_at chains l i = chain_of chains (name_in (get_or l i 0))
+abbrev pub chain_at : (chains : ℕ) → List Entry → ℕ → ℕ
+chain_at chains l i = chain_of chains (entry_at l i).name.0
 
 -- the newest of the chain b among the first n, as its position and one; 0 if there is none
-unfoldable pub newest : (chains : ℕ) → List ℕ → (b : ℕ) → ℕ → ℕ
+unfoldable pub newest : (chains : ℕ) → List Entry → (b : ℕ) → ℕ → ℕ
 newest chains l b zero = 0
 newest chains l b (suc n) = pick (eqb (chain_at chains l n) b) (suc n) (newest chains l b n)
 
 -- the first n entries are known: the head of each chain is its newest entry, and each entry's link is the newest of its chain before it
-pub record Known (l heads : List ℕ) (n : ℕ) : Type 0 where
+pub record Known (l : List Entry) (heads : List Link) (n : ℕ) : Type 0 where
   pub room : n ≤ length l
   pub short : length l ≤ 65535
   pub wide : 1024 ≤ length heads
-  pub head : (b : ℕ) → b < length heads → get_or heads b 0 ≡ newest (length heads) l b n
-  pub link : (i : ℕ) → i < n → link_in (get_or l i 0) ≡ newest (length heads) l (chain_at (length heads) l i) i
+  pub head : (b : ℕ) → b < length heads → (get_or heads b no_link).0 ≡ newest (length heads) l b n
+  pub link : (i : ℕ) → i < n → (entry_at l i).link.0 ≡ newest (length heads) l (chain_at (length heads) l i) i

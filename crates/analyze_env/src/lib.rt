@@ -1,14 +1,14 @@
 // The names that are known in a function, with their types (`env` of `sema.rs`).
 #![tactic(auto)]
 
-ghost use Rattle.std.specs.Prelude.{◌≡◌, ◌-◌, ◌≤◌, ◌<◌, [], length, drop, replicate};
+ghost use Rattle.std.specs.Prelude.{◌≡◌, ◌+◌, ◌≤◌, ◌<◌, [], length, replicate};
 ghost use Rattle.definitions.specs.Analyze as analyze;
 ghost use Rattle.definitions.specs.Analyze.{get};
 ghost use Rattle.ir.specs.Answers.{option_of};
-ghost use Rattle.analyze_env.specs.Types.{as_ty, ty_code, ty_from};
-ghost use Rattle.analyze_env.specs.Entries.{name_in, link_in, ty_in, chain_of};
+ghost use Rattle.analyze_env.specs.Types.{as_ty};
+ghost use Rattle.analyze_env.specs.Entries.{no_link, position_of, chain_of};
 
-use ir::{IrType, Name, VOID_CODE};
+use ir::{IrType, Name};
 use std::marker::Model;
 
 // There are FEW heads at least, and names with the same remainder by FEW share one. With ALL heads each name has its own, so that no lookup
@@ -20,8 +20,8 @@ pub const ALL: usize = 65536;
 // A type of the body check (`Type` of `sema.rs`). Not `Option<IrType>`: what `get` gives would then be an Option of an Option.
 #[derive(Clone, Copy, Debug, PartialEq, Eq)]
 pub enum Ty {
-    Known(IrType),
     Unknown,
+    Known(IrType),
 }
 
 // Two types that are known and not the same.
@@ -31,45 +31,47 @@ pub fn differs(a: Ty, b: Ty) -> bool
     a != b && a != Ty::Unknown && b != Ty::Unknown
 }
 
-// The code of Unknown is the tag after the last type's.
-const UNKNOWN_CODE: usize = VOID_CODE + 1;
+// The position of an entry, or none. Zeros are none, so that new heads are cleared memory; an Option of the position has four bytes.
+#[derive(Clone, Copy, Debug, PartialEq, Eq)]
+pub struct Link(u16);
 
-// The code of a type of the body check.
-fn ty_code(t: Ty) -> usize
-    ensures { (result ≡ ty_code (as_ty t)) × (result < 4294967296) }
-{
-    match t {
-        Ty::Known(known) => u32::from(known) as usize,
-        Ty::Unknown => UNKNOWN_CODE,
+impl Link {
+    pub const NONE: Link = Link(0);
+
+    // To an entry.
+    fn to(position: usize) -> Link
+        requires { position < 65535 }
+        ensures { result.0 ≡ position + 1 }
+    {
+        Link((position + 1) as u16)
+    }
+
+    fn get(self) -> Option<usize>
+        ensures { option_of (λ i. i) result ≡ position_of self.0 }
+    {
+        if self.0 == 0 {
+            None
+        } else {
+            Some(self.0 as usize - 1)
+        }
     }
 }
 
-// Where the parts of an entry start: the name, sixteen bits; the link, sixteen; the type's code, thirty-two.
-const LINK: u64 = 65536;
-
-const TYPE: u64 = 4294967296;
-
-// How many numbers a link's sixteen bits have.
-const LINKS: u64 = 65536;
-
-// A name with the link of its chain and its type.
-fn entry(name: Name, link: u16, t: Ty) -> u64
-    ensures { (name_in result ≡ name.0) × (link_in result ≡ link) × (ty_in result ≡ as_ty t) }
-{
-    let code = ty_code(t);
-    name.0 as u64 + LINK * (link as u64) + TYPE * (code as u64)
+// A name with its type, and the link to the entry before it of its chain.
+#[derive(Clone, Copy, Debug, PartialEq, Eq)]
+pub struct Entry {
+    name: Name,
+    link: Link,
+    ty: Ty,
 }
 
-// The type of an entry.
-fn type_in(e: u64) -> Ty
-    ensures { as_ty result ≡ ty_in e }
-{
-    let code = (e / TYPE) as usize;
-    if code == UNKNOWN_CODE {
-        return Ty::Unknown;
-    }
-    let t = IrType::from(code);
-    Ty::Known(t)
+impl Entry {
+    // What an entry is before it is written: zeros.
+    pub const BLANK: Entry = Entry {
+        name: Name(0),
+        link: Link::NONE,
+        ty: Ty::Unknown,
+    };
 }
 
 // The chain of a name.
@@ -84,12 +86,11 @@ fn chain_of(name: Name, chains: usize) -> usize
     number
 }
 
-// The first `count` entries are the names, newest last. Each chain of names has a head, the position of its newest entry and one, and each
-// entry a link to the one before it of its chain. The memory is lent.
+// The first `count` entries are the names, newest last. Each chain of names has a head, the link to its newest entry. The memory is lent.
 #[derive(Drop)]
 pub struct Env<'a> {
-    entries: &'a mut [u64],
-    heads: &'a mut [u16],
+    entries: &'a mut [Entry],
+    heads: &'a mut [Link],
     count: usize,
 }
 
@@ -109,8 +110,8 @@ impl<'a> Model for Env<'a> {
 impl<'a> Env<'a> {
     ghost use Rattle.analyze_env.specs.Names.{Names, named, truncated};
 
-    pub fn new(entries: &'a mut [u64], heads: &'a mut [u16]) -> Env<'a>
-        requires heads_are_zeros { heads.old ≡ replicate (length heads.old) 0 }
+    pub fn new(entries: &'a mut [Entry], heads: &'a mut [Link]) -> Env<'a>
+        requires heads_are_none { heads.old ≡ replicate (length heads.old) no_link }
         requires sizes { (length entries.old ≤ 65535) × (1024 ≤ length heads.old) }
         ensures { result ≡ record { names = []; room = length entries.old } }
     {
@@ -132,15 +133,14 @@ impl<'a> Env<'a> {
     pub fn get(&self, name: Name) -> Option<Ty>
         ensures { option_of as_ty result ≡ get name.0 self.now.names }
     {
-        let wanted = name.0 as u64;
         let chain = chain_of(name, self.heads.len());
-        let mut i = self.heads[chain] as usize;
-        while 0 < i {
-            let e = self.entries[i - 1];
-            if e % LINK == wanted {
-                return Some(type_in(e));
+        let mut link = self.heads[chain];
+        while let Some(i) = link.get() {
+            let e = self.entries[i];
+            if e.name == name {
+                return Some(e.ty);
             }
-            i = (e / LINK % LINKS) as usize;
+            link = e.link;
         }
         None
     }
@@ -152,8 +152,8 @@ impl<'a> Env<'a> {
     {
         let chain = chain_of(name, self.heads.len());
         let link = self.heads[chain];
-        self.entries[self.count] = entry(name, link, t);
-        self.heads[chain] = (self.count + 1) as u16;
+        self.entries[self.count] = Entry { name, link, ty: t };
+        self.heads[chain] = Link::to(self.count);
         self.count += 1;
     }
 
@@ -165,8 +165,8 @@ impl<'a> Env<'a> {
         while mark < self.count {
             self.count -= 1;
             let e = self.entries[self.count];
-            let chain = chain_of(Name((e % LINK) as u16), self.heads.len());
-            self.heads[chain] = (e / LINK % LINKS) as u16;
+            let chain = chain_of(e.name, self.heads.len());
+            self.heads[chain] = e.link;
         }
     }
 }

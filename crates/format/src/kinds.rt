@@ -239,6 +239,8 @@ impl TryFrom<u16> for Kind {
 
     ghost try_from_gives = { numbers.IsKind };
 
+    // Inlined: the form of a sheet asks it for each record (`sheet::tables`).
+    #[inline(always)]
     fn try_from(number: u16) -> Result<Self, UnknownKind> {
         Ok(match number {
             1 => Kind::Contract,

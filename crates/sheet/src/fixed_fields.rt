@@ -67,12 +67,25 @@ impl Entry {
         }
     }
 
-    // Whether so many entries from a place on are valid.
+    // Whether so many entries from a place on are valid: a loop for each kind of entry, which does not ask the kind in each turn.
+    #[inline(always)]
+    #[tactic(auto, unfolding(definitions::specs::Records::size_of, definitions::specs::Records::ok_item))]
     fn all_valid(self, s: &[u8], at: usize, count: usize) -> bool
         requires { at + size_of (entry_of self) * count ≤ length s.now }
         ensures { result ≡ ok_items (entry_of self) count s.now at }
     {
-        (0..count).all(|i| self.valid(s, at + self.size() * i))
+        match self {
+            Entry::Id => (0..count).all(|i| name_valid(s, at + ID * i)),
+            Entry::Type => (0..count).all(|i| type_valid(s, at + TYPE * i)),
+            Entry::ValueAndType => (0..count).all(|i| Entry::ValueAndType.valid(
+                s,
+                at + program::PARAM * i,
+            )),
+            Entry::NameAndType => (0..count).all(|i| Entry::NameAndType.valid(
+                s,
+                at + contract::PARAM * i,
+            )),
+        }
     }
 }
 

@@ -20,7 +20,18 @@ ghost use Rattle.sheet.specs.Forms.{form_of, limits_of, refusal_of};
 pub use errors::{ContractError, Malformed, OverLimit};
 use limits::limits;
 use records::records;
-use tables::{ONE_CONTRACT, ONE_PROGRAM};
+use tables::{Child, Class, Often};
+
+// The patterns of the sheets: one contract, one program.
+const ONE_CONTRACT: &[Child] = &[Child {
+    class: Class::Contract,
+    often: Often::Once,
+}];
+
+const ONE_PROGRAM: &[Child] = &[Child {
+    class: Class::Program,
+    often: Often::Once,
+}];
 
 // Refusal 3: one contract and nothing after it.
 #[tactic(auto, unfolding(definitions::specs::ContractSheet::refusal3))]

@@ -1,5 +1,5 @@
 // Refusal 4: the first record that is too many, too wide or too deep.
-ghost use Rattle.std.specs.Prelude.{◌≡◌, ◌+◌, ◌≤◌, ◌<◌, length};
+ghost use Rattle.std.specs.Prelude.{◌≡◌, ◌≤◌, ◌<◌, length};
 ghost use Rattle.definitions.specs.Records.{read_records};
 ghost use Rattle.definitions.specs.ContractSheet.{count_trees, none_before, limit_trees};
 ghost use Rattle.format.specs.Kinds.{number_of};

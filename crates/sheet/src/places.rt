@@ -1,7 +1,6 @@
 // Where things stand in a record that passed the check of its form: no validity is tested again.
-ghost use Rattle.std.specs.Prelude.{◌≡◌, ◌+◌, ◌*◌, ◌≤◌, length};
-ghost use Rattle.definitions.specs.Fields.{le};
-ghost use Rattle.definitions.specs.Records.{ok_field, field_end, read_records};
+ghost use Rattle.std.specs.Prelude.{◌≡◌, ◌≤◌, length};
+ghost use Rattle.definitions.specs.Records.{field_end, read_records};
 ghost use Rattle.definitions.specs.ContractSheet.{count_trees};
 ghost use Rattle.format.specs.Kinds.{number_of};
 ghost use Rattle.sheet.specs.Passed.{Passed, Standing, record_kind, body_of};

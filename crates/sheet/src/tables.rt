@@ -107,17 +107,6 @@ const FIELD_INITS: Child = Child {
     often: Often::Any,
 };
 
-// The patterns of the sheets: one contract, one program.
-pub(crate) const ONE_CONTRACT: &[Child] = &[Child {
-    class: Class::Contract,
-    often: Often::Once,
-}];
-
-pub(crate) const ONE_PROGRAM: &[Child] = &[Child {
-    class: Class::Program,
-    often: Often::Once,
-}];
-
 // Contract sheet.
 static CONTRACT: Row = Row {
     class: Class::Contract,
@@ -437,6 +426,8 @@ static UNREACHABLE: Row = Row {
     children: &[],
 };
 
+// Inlined, as `Kind::try_from` is: by two calls for each record, the form of a sheet takes half as long again.
+#[inline(always)]
 #[tactic(auto, unfolding(definitions::specs::Grammar::rows, definitions::specs::Records::row_in))]
 pub(crate) fn row_of(kind: Kind) -> &'static Row
     ensures { row_of result.now ≡ row_in (number_of kind) rows }

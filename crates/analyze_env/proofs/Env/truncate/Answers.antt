@@ -1,7 +1,6 @@
 -- `analyze_env::Env::truncate`: the newest entry's chain gets back the head from before it. Assumes nothing.
 use mathlib.Core.Path.{◌≡◌, refl}
 use native.Mathlib.Omega.{arith}
-use Rattle.analyze_env.specs.Entries.{name_in, link_in}
 use Rattle.analyze_env.proofs.Chains.{dropped, count_is, cut}
 use Rattle.analyze_env.proofs.Env.truncate.Goals as goal
 
@@ -11,7 +10,6 @@ loop-self-init c =
     (c.self.invariant, refl, omega (arith, c.requires, count_is i.entries.now i.count c.self.view_is))
 
 pub loop-self-preserved : goal.loop-self-preserved
-unfolding name_in link_in
 loop-self-preserved c =
     (dropped c.loop-self.invariant.0 (omega arith) c.chain_of-chain.ensures, c.loop-self.invariant.1, omega arith)
 
