@@ -125,13 +125,6 @@ impl TryFrom<u16> for ContextKind {
     }
 }
 
-// The same numbers by themselves, until their last reader has the enum.
-pub const MSG_SENDER: usize = 0;
-
-pub const MSG_NONCE: usize = 1;
-
-pub const BLOCK_NUMBER: usize = 2;
-
 // Terminators.
 pub const TARGET: usize = FIELDS;
 

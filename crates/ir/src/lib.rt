@@ -10,7 +10,7 @@ ghost use Rattle.definitions.specs.InstrTable.{kind_row};
 ghost use Rattle.format.specs.Kinds.{instr_number};
 ghost use Rattle.ir.specs.Kinds.{rule_of, effect_of, rule_in, effect_in};
 
-use format::kinds::{FIRST_INSTRUCTION, Instruction};
+use format::kinds::Instruction;
 
 // A name. Equal numbers stand for equal strings.
 #[derive(Clone, Copy, Debug, PartialEq, Eq)]
@@ -205,6 +205,6 @@ pub fn kind_row(kind: Instruction) -> KindRow
     ensures rule { some (rule_of result.result) ≡ rule_in (kind_row (instr_number kind)) }
     ensures effect { some (effect_of result.effect) ≡ effect_in (kind_row (instr_number kind)) }
 {
-    let (result, effect) = KIND_ROWS[kind as usize - FIRST_INSTRUCTION];
+    let (result, effect) = KIND_ROWS[kind as usize - Instruction::Const as usize];
     KindRow { result, effect }
 }

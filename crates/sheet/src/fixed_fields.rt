@@ -9,6 +9,7 @@ ghost use Rattle.sheet.specs.Tables.{entry_of, field_of, fields_of};
 
 use crate::tables::{Entry, Field};
 use format::operators::BinOp;
+use format::program::ContextKind;
 use format::{COUNT, HIGHEST_ID, ID, TYPE, contract, program};
 use reader::read;
 
@@ -170,7 +171,7 @@ fn past_field(s: &[u8], at: usize, stop: usize, field: Field) -> Option<usize>
         Field::U32 => past_bytes(at, stop, 4),
         Field::Flag => past_u16(s, at, stop, 1),
         Field::Operator => past_u16(s, at, stop, BinOp::Gte as usize),
-        Field::Context => past_u16(s, at, stop, program::BLOCK_NUMBER),
+        Field::Context => past_u16(s, at, stop, ContextKind::BlockNumber as usize),
         Field::Counted(entry) => past_counted(s, at, stop, entry),
         Field::Listed(entry) => past_listed(s, at, stop, entry),
     }
