@@ -1,4 +1,5 @@
-// A number in decimal digits, as bytes of any slice.
+// A number in decimal digits, as bytes of any slice. Nothing reads it now (crates/line_text needs all digits of a number, and no last ones): it stays for
+// its promise and the two wrong programs of must-fail/, which no other code states.
 #![tactic(auto)]
 
 ghost use Rattle.std.specs.Prelude.{◌+◌, ◌≤◌, length};
