@@ -71,6 +71,8 @@ impl<'a> Stmt<'a> {
         self.at + read(self.contract.sheet, self.at, 4)
     }
 
+    // What it is. Inlined, as that of an expression is.
+    #[inline(always)]
     pub fn node(self) -> StmtNode<'a>
         ensures is { StmtIs self.entry result }
         ensures parts { StmtParts self.entry result }

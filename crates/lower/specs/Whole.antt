@@ -1,6 +1,6 @@
 -- The parts of lowering that lead from the walk of each function to the answer. Untrusted, but for `answer_of`, which gives document
 -- 01's number and values for each answer.
-use Rattle.std.specs.Prelude.{ℕ, ◌+◌, ◌≤◌, ◌<◌, ◌≡◌, ◌&&◌, List, [], ◌∷◌, ◌++◌, leb, length, take}
+use Rattle.std.specs.Prelude.{ℕ, ◌≤◌, ◌≡◌, ◌&&◌, List, [], ◌++◌, leb, length, take}
 use Rattle.std.specs.Prelude as code
 use Rattle.definitions.specs.Fields.{bytes}
 use Rattle.definitions.specs.Result.{Result, err, ok, ◌>>=◌, ◌>>◌, map_err, check}
@@ -69,9 +69,6 @@ abbrev pub program_answer : List ℕ → (room : ℕ) → answers.Answer
 program_answer body room = do
   check (leb (length (write_record 50 body)) 32768 && leb (length (write_record 50 body)) room) (refusal 31 [])
   ok (write_record 50 body)
-
-abbrev pub Finished : List ℕ → (n : ℕ) → List ℕ → code.Result ℕ lowering.Refusal → Type 0
-Finished body n out r = AnsweredWith (program_answer body n) n out r
 
 -- how much is written
 abbrev pub written_by : Result Refusal ℕ → ℕ

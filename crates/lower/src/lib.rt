@@ -14,7 +14,7 @@ use format::kinds::Kind;
 use format::{HEAD, KIND};
 use ir::FunctionId;
 use lower_functions::lower_function;
-use lower_layout::lay_function;
+use lower_layout::{fits, lay_function};
 use lower_name_table::lay_names;
 use lower_state::{FnCtx, LoweringError};
 use writer::{clear, write};
@@ -41,14 +41,11 @@ fn place_function(
 }
 
 // All functions, each behind the last.
-fn place_functions(
-    functions: &Functions,
-    out: &mut [u8],
-) -> Result<Option<usize>, LoweringError>
+fn place_functions(functions: &Functions, out: &mut [u8]) -> Result<Option<usize>, LoweringError>
     ensures { FunctionsPlaced (contract_in functions.now.contract) out.old out.new result }
 {
     let mut ctx = FnCtx::new(FunctionId(0));
-    let mut to = Some(HEAD);
+    let mut to = if fits(out, HEAD, 0) { Some(HEAD) } else { None };
     for i in 0..functions.len() {
         let f = functions.get(i).unwrap();
         to = place_function(&mut ctx, f, FunctionId(i as u16), out, to)?;

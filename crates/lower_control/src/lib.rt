@@ -25,11 +25,7 @@ pub struct Bounds {
 }
 
 // If: the condition, the blocks and the branch; the then block is open.
-pub fn enter_if(
-    ctx: &mut FnCtx,
-    scopes: &Scopes,
-    condition: Expr,
-) -> Result<Blocks, LoweringError>
+pub fn enter_if(ctx: &mut FnCtx, scopes: &Scopes, condition: Expr) -> Result<Blocks, LoweringError>
     ensures { after blocks_of ctx.new result ≡ enter_if (contract_in condition.entry.contract) scopes.now.held (expr_in condition.entry) ctx.old }
 {
     let (value, _) = lower_expr_value(ctx, scopes, condition)?;

@@ -72,8 +72,7 @@ fn lower_call(
     if let Callee::Context(_) = callee {
         return finish_call(ctx, callee, &values);
     }
-    let mut args = args;
-    while let Some(arg) = args.next() {
+    for arg in args {
         let (value, _) = lower_expr_value(ctx, scopes, arg)?;
         values.push(value);
     }

@@ -16,11 +16,7 @@ use lower_state::{FnCtx, LoweringError};
 use lower_stmts::lower_stmts;
 
 // The parameters: one value, one local and one write for each.
-fn lower_params(
-    ctx: &mut FnCtx,
-    scopes: &mut Scopes,
-    f: Function,
-) -> Result<(), LoweringError>
+fn lower_params(ctx: &mut FnCtx, scopes: &mut Scopes, f: Function) -> Result<(), LoweringError>
     requires { scopes.old ≡ record { held = []; scope = 0 } }
     ensures is { stated ctx.new scopes.new result ≡ walk_params (function_in f.entry).params [] ctx.old }
     ensures same_scope { scopes.new.scope ≡ 0 }
@@ -36,11 +32,7 @@ fn lower_params(
 }
 
 // A function, into the log.
-pub fn lower_function(
-    ctx: &mut FnCtx,
-    f: Function,
-    id: FunctionId,
-) -> Result<(), LoweringError>
+pub fn lower_function(ctx: &mut FnCtx, f: Function, id: FunctionId) -> Result<(), LoweringError>
     ensures is { done_after ctx.new result ≡ walk_function (contract_in f.entry.contract) id.0 (function_in f.entry) ctx.old.starts ctx.old.stops }
     ensures sizes { (length ctx.old.starts ≡ 256) × (length ctx.old.stops ≡ 256) }
 {

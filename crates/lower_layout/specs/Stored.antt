@@ -1,5 +1,5 @@
 -- What the parts of the program sheet's layout leave. Untrusted: helper definitions.
-use Rattle.std.specs.Prelude.{ℕ, zero, suc, ◌+◌, ◌-◌, ◌*◌, ◌≤◌, ◌<◌, ◌≡◌, List, ◌++◌, length, get_or, Option, None}
+use Rattle.std.specs.Prelude.{ℕ, ◌+◌, ◌*◌, ◌≤◌, ◌<◌, ◌≡◌, List, ◌++◌, length, get_or, Option, None}
 use Rattle.std.proofs.lemmas.List.Edits.{sets}
 use Rattle.definitions.specs.Ast.{Function}
 use Rattle.definitions.specs.Fields.{bytes}
@@ -12,11 +12,6 @@ use Rattle.lower_layout.specs.Laid.{Laid}
 pub record Put (x before : List ℕ) (to : ℕ) (after : List ℕ) (r : ℕ) : Type 0 where
   pub is : after ≡ sets before to x
   pub past : r ≡ to + length x
-
--- the bytes of the first n blocks
-unfoldable pub blocks_size : (starts stops : List ℕ) (n : ℕ) → ℕ
-blocks_size starts stops zero = 0
-blocks_size starts stops (suc n) = blocks_size starts stops n + (8 + (get_or stops n 0 - get_or starts n 0))
 
 -- the records of each of n blocks stand in the first `to` bytes of the log
 abbrev pub BlocksWithin : (starts stops : List ℕ) (n to : ℕ) → Type 0

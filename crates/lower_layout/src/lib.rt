@@ -9,7 +9,7 @@ ghost use Rattle.ir.specs.Types.{as_type};
 ghost use Rattle.contract_nodes.specs.Nodes.{function_in};
 ghost use Rattle.lower_walk.specs.Layout.{param_values};
 ghost use Rattle.lower_layout.specs.Laid.{room_of};
-ghost use Rattle.lower_layout.specs.Stored.{Put, blocks_size, BlocksWithin, Within, blocks_part, head_of, head_size, LaidOrLost};
+ghost use Rattle.lower_layout.specs.Stored.{Put, BlocksWithin, Within, blocks_part, head_of, head_size, LaidOrLost};
 
 use contract_lookup::types::{own_return_type, parse_ir_type};
 use contract_nodes::Function;
@@ -30,8 +30,8 @@ pub fn fits(out: &[u8], to: usize, size: usize) -> bool
 // The bytes of all blocks.
 fn blocks_size(ctx: &FnCtx) -> usize
     requires { Within ctx.now }
-    ensures is { result ≡ blocks_size ctx.now.starts ctx.now.stops ctx.now.next_block }
-    ensures most { result ≤ 32776 * ctx.now.next_block }
+    ensures is { result ≡ length (blocks_part ctx.now) }
+    ensures most { result ≤ 32776 * 256 }
 {
     let mut size = 0;
     for k in 0..ctx.blocks() {

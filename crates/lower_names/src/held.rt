@@ -18,7 +18,7 @@ const NOTHING: Entry = Entry {
     name: Name::EMPTY,
     scope: 0,
     local: LocalId(0),
-    ty: IrType::Void,
+    ty: IrType::U64,
 };
 
 // The names that are held in all open scopes, newest last, and the number of the innermost scope: a function's own is 0, and an arm or a

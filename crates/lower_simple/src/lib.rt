@@ -99,8 +99,7 @@ pub fn lower_emit(
     ensures { (p : ℕ) → stated ctx.new scopes.now result ≡ walk_stmt (contract_in args.entry.contract) scopes.now.scope scopes.now.held (Stmt.Emit p event.0 (exprs_in args.entry)) ctx.old }
 {
     let mut values = Args::new();
-    let mut args = args;
-    while let Some(arg) = args.next() {
+    for arg in args {
         let (value, _) = lower_expr_value(ctx, scopes, arg)?;
         values.push(value);
     }

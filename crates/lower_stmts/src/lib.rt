@@ -93,11 +93,11 @@ fn lower_for(
 {
     let bounds = for_locals(ctx, scopes, start, end)?;
     let blocks = for_blocks(ctx, bounds)?;
-    let mark = scopes.len();
+    let before = scopes.len();
     scopes.push_scope();
     scopes.declare(name, bounds.var, IrType::U64);
     lower_stmts(ctx, scopes, body)?;
-    scopes.pop_scope(mark);
+    scopes.pop_scope(before);
     leave_for(ctx, bounds.var, blocks);
     Ok(())
 }
@@ -139,8 +139,7 @@ pub fn lower_stmts(ctx: &mut FnCtx, scopes: &mut Scopes, body: Stmts) -> Result<
     ensures is { done_after ctx.new result ≡ walk_stmts (contract_in body.entry.contract) scopes.old.scope scopes.old.held (stmts_in body.entry) ctx.old }
     ensures names { IfOk result (λ u. Extends scopes.old scopes.new) }
 {
-    let mut body = body;
-    while let Some(t) = body.next() {
+    for t in body {
         if ctx.is_ended() {
             return Ok(());
         }

@@ -1,23 +1,26 @@
 -- `place_function`: what the walk came to is what the definitions say, and the record is laid down or does not fit. Assumes nothing.
-use mathlib.Core.Path.{◌≡◌, refl}
-use native.Mathlib.Omega.{arith}
-use lib.ListN.{length}
-use Rattle.lower.proofs.Placing.{refused, sound, within, put}
+use mathlib.Core.Path.{refl}
+use Rattle.std.proofs.lemmas.Result.{err_from_is_err_and}
+use Rattle.lower.proofs.Placing.{not_walked, within, put, not_put}
 use Rattle.lower.proofs.place_function.Goals as goal
+
+pub returns-in_err-lower_function : goal.returns-in_err-lower_function
+returns-in_err-lower_function c =
+    let p = err_from_is_err_and c.from_residual.result c.from_residual.ensures.1 in
+    let w = c.in_err-lower_function.ensures in
+    rw (p.1, p.2) (not_walked c.args.f.contract.sheet.now c.args.f.at _ _ _ c.args.f.ready w.sizes w.is, refl)
+
+pub returns-in_default : goal.returns-in_default
+returns-in_default c =
+    let w = c.in_ok-lower_function.ensures in
+    rw c.in_default.is (not_put c.args.f.contract.sheet.now c.args.f.at _ _ _ c.args.f.ready w.sizes w.is c.args.out.now)
 
 pub lay_function-requires : goal.lay_function-requires
 lay_function-requires c =
-    let W = c.lower_function-step.ensures in
-    let q = c.in-Next.is in
-    let long : length c.args.tables.now ≡ 768 = omega arith in
-    record { contract_passed = (c.requires.0, (c.requires.1, sound c.requires.1 long W q)); blocks_within = within c.requires.1 long W q }
+    let w = c.in_ok-lower_function.ensures in
+    within c.args.f.contract.sheet.now c.args.f.at _ _ _ c.args.f.ready w.sizes w.is
 
-pub returns-in-Next : goal.returns-in-Next
-returns-in-Next c =
-    let long : length c.args.tables.now ≡ 768 = omega arith in
-    put c.requires.1 long c.lower_function-step.ensures c.in-Next.is c.lay_function.ensures.0 c.lay_function.ensures.1
-
-pub returns-in-Refused : goal.returns-in-Refused
-returns-in-Refused c =
-    let long : length c.args.tables.now ≡ 768 = omega arith in
-    (refused c.requires.1 long c.lower_function-step.ensures c.in-Refused.is, refl)
+pub returns : goal.returns
+returns c =
+    let w = c.in_ok-lower_function.ensures in
+    rw c.in-Some.is (put c.args.f.contract.sheet.now c.args.f.at _ _ _ c.args.f.ready w.sizes w.is c.args.out.now _ _ _ c.lay_function.ensures)

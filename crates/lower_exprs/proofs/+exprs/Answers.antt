@@ -61,16 +61,17 @@ pub lower_call-returns-in-Context-clause-is : goal.lower_call-returns-in-Context
 lower_call-returns-in-Context-clause-is t c = context_read _ _ _ _ c.args.ctx.now.log c.len.ensures c.in_ok-callee.callee c.new-values.result c.in_ok-callee.ensures c.in-Context.is c.finish_call.ensures.is
 
 pub lower_call-loop-arg-init : goal.lower_call-loop-arg-init
-lower_call-loop-arg-init t c = record {
-  sheet = refl;
-  depth = refl;
-  left = call_starts _ _ c.args.name.0 _ c.args.ctx.now c.len.ensures c.requires c.in_ok-callee.ensures c.in_default.not-Context c.new-values.ensures;
-}
+lower_call-loop-arg-init t c =
+    rw c.into_iter-arg-iterator.ensures.into_iter_gives (record {
+      sheet = refl;
+      depth = refl;
+      left = call_starts _ _ c.args.name.0 _ c.args.ctx.now c.len.ensures c.requires c.in_ok-callee.ensures c.in_default.not-Context c.new-values.ensures;
+    })
 
 pub lower_call-returns-in_err-value : goal.lower_call-returns-in_err-value
 lower_call-returns-in_err-value t c =
     let p = err_from_is_err_and c.from_residual-in_err-value.result c.from_residual-in_err-value.ensures.1 in
-    let f = c.in-Some.ensures in
+    let f = c.in-Some.ensures.steps in
     let i = c.loop-arg.invariant in
     record {
       is = rw (p.1, p.2) (refuses i.left f.is (value_on_sheet _ _ _ (f.sheet ∙ i.sheet) c.in_err-value.ensures.is));
@@ -79,7 +80,7 @@ lower_call-returns-in_err-value t c =
 
 pub lower_call-loop-arg-preserved : goal.lower_call-loop-arg-preserved
 lower_call-loop-arg-preserved t c =
-    let f = c.in-Some.ensures in
+    let f = c.in-Some.ensures.steps in
     let i = c.loop-arg.invariant in
     record {
       sheet = f.rest_sheet ∙ i.sheet;
@@ -91,6 +92,6 @@ pub lower_call-returns : goal.lower_call-returns
 lower_call-returns t c =
     let i = c.loop-arg.invariant in
     record {
-      is = c.finish_call-2.ensures.is ∙ finishes i.left c.in_default-next.ensures;
+      is = c.finish_call-2.ensures.is ∙ finishes i.left c.in-None.ensures.steps;
       log_alone = then_alone c.args.ctx.now _ _ i.left.same c.finish_call-2.ensures.log_alone;
     }

@@ -8,19 +8,19 @@ use Rattle.lower_simple.proofs.Emitting.{emits}
 use Rattle.lower_simple.proofs.lower_emit.Goals as goal
 
 pub loop-arg-init : goal.loop-arg-init
-loop-arg-init c = record { sheet = refl; left = begins c.requires c.new-values.ensures refl }
+loop-arg-init c = rw c.into_iter-arg-iterator.ensures.into_iter_gives (record { sheet = refl; left = begins c.requires c.new-values.ensures refl })
 
 pub returns-in_err-value : goal.returns-in_err-value
 unfolding walk_stmt
 returns-in_err-value c =
     let p = err_from_is_err_and c.from_residual.result c.from_residual.ensures.1 in
-    let f = c.in-Some.ensures in
+    let f = c.in-Some.ensures.steps in
     let i = c.loop-arg.invariant in
     λ place. rw (p.1, p.2) (refuses i.left f.is (value_on_sheet _ _ _ (f.sheet ∙ i.sheet) c.in_err-value.ensures.is))
 
 pub loop-arg-preserved : goal.loop-arg-preserved
 loop-arg-preserved c =
-    let f = c.in-Some.ensures in
+    let f = c.in-Some.ensures.steps in
     let i = c.loop-arg.invariant in
     record {
       sheet = f.rest_sheet ∙ i.sheet;
@@ -29,4 +29,4 @@ loop-arg-preserved c =
 
 pub returns : goal.returns
 unfolding walk_stmt
-returns c = λ place. emits _ _ c.loop-arg.invariant.left c.in_default.ensures c.emit_event.ensures
+returns c = λ place. emits _ _ c.loop-arg.invariant.left c.in-None.ensures.steps c.emit_event.ensures

@@ -1,0 +1,2 @@
+pub mod ParamSteps
+pub mod FunctionSteps

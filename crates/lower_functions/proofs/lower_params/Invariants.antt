@@ -1,0 +1,9 @@
+-- `lower_params`: what is left of the parameters gives what all of them give. Assumes nothing.
+use mathlib.Core.List.{[]}
+use Rattle.contract_nodes.specs.Nodes.{function_in}
+use Rattle.lower_walk.specs.Layout.{walk_params}
+use Rattle.lower_functions.proofs.ParamSteps.{Going}
+use Rattle.lower_functions.proofs.lower_params.Given as goal
+
+abbrev pub invariant-loop-i : goal.invariant-loop-i
+invariant-loop-i l = Going (function_in l.f).params (walk_params (function_in l.f).params [] l.fn.ctx) l.ctx l.scopes l.i

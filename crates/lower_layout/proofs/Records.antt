@@ -1,0 +1,153 @@
+-- A function's record from its pieces, blocks, parameters and locals: what each is, and that they are the record.
+-- Assumes nothing.
+use mathlib.Core.Path.{◌≡◌, refl, ap, sym, ◌∙◌}
+use mathlib.Core.List.{List, [], ◌∷◌, ◌++◌, map, append_assoc, append-nil}
+use Prim.Native.Nat.{ℕ, zero, suc, ◌+◌, ◌-◌, ◌*◌, ◌≤◌, ◌<◌}
+use native.Mathlib.Nat.{add-zero, zero-add}
+use native.Mathlib.Numerals.{add-one}
+use native.Mathlib.Omega.{arith}
+use lib.ListN.{length, get_or, take, drop, length-append, length-map}
+use Rattle.definitions.specs.Fields.{bytes}
+use Rattle.definitions.specs.Ir.{IrType}
+use Rattle.definitions.specs.Lower.{parse_ir_type, own_return_type}
+use Rattle.definitions.specs.Records.{ty, group, write_type, write_item, write_items, write_value, write_record, write_values}
+use Rattle.definitions.specs.ProgramSheet.{param_item}
+use Rattle.definitions.specs.Ast as ast
+use Rattle.definitions.specs.Ast.{Function}
+use Rattle.definitions.proofs.Fields.{length_bytes}
+use Rattle.ir.specs.Types.{as_type}
+use Rattle.ir.specs.declared.IrType.{IrType as CodeType}
+use Rattle.contract_nodes.specs.Nodes.{param_is}
+use Rattle.contract_nodes.specs.declared.contract.Param.{Param}
+use Rattle.lower_walk.specs.Stmts.{LogCtx}
+use Rattle.lower_walk.specs.Layout.{block_bytes, blocks_bytes, param_values, head_bytes, function_bytes}
+use Rattle.lower_layout.specs.Stored.{Put, blocks_part, head_of, head_size}
+use Rattle.lower_layout.proofs.Storing.{put_length, run, run_more, ◌then◌, put_as}
+
+-- BLOCKS
+abbrev pub block_at : LogCtx → ℕ → List ℕ
+block_at c k = block_bytes c.log.bytes k (get_or c.starts k 0) (get_or c.stops k 0)
+
+blocks_from : (c : LogCtx) (k n : ℕ) → blocks_bytes c.log.bytes c.starts c.stops k n ≡ run (block_at c) k n
+unfolding blocks_bytes run
+blocks_from c k zero = refl
+blocks_from c k (suc n) = ap (λ (x : List ℕ). block_at c k ++ x) (blocks_from c (suc k) n)
+
+pub blocks_run : (c : LogCtx) → blocks_part c ≡ run (block_at c) 0 c.next_block
+blocks_run c = blocks_from c 0 c.next_block
+
+block_size : (k : ℕ) (x : List ℕ) → 6 + length (bytes 2 k ++ x) ≡ 8 + length x
+block_size k x = simp (length-append, length_bytes) (omega arith)
+
+pub block_is : (k : ℕ) (x : List ℕ) → ((bytes 4 (8 + length x) ++ bytes 2 53) ++ bytes 2 k) ++ x ≡ write_record 53 (bytes 2 k ++ x)
+unfolding write_record
+block_is k x = rw (block_size k x, append_assoc (bytes 4 (8 + length x) ++ bytes 2 53), append_assoc (bytes 4 (8 + length x)))
+
+pub block_length : (k : ℕ) (x : List ℕ) → length (write_record 53 (bytes 2 k ++ x)) ≡ 8 + length x
+block_length k x = rw (← block_is k x) (simp (length-append, length_bytes) (omega arith))
+
+-- the block k of a function, whose records are x
+pub block_here : (c : LogCtx) (k : ℕ) {x : List ℕ} → x ≡ take (get_or c.stops k 0 - get_or c.starts k 0) (drop (get_or c.starts k 0) c.log.bytes) → write_record 53 (bytes 2 k ++ x) ≡ block_at c k
+unfolding block_bytes
+block_here c k e = rw e
+
+pub one_block : (c : LogCtx) (k : ℕ) (x : List ℕ) → write_record 53 (bytes 2 k ++ x) ≡ block_at c k → length (run (block_at c) 0 (k + 1)) ≡ length (run (block_at c) 0 k) + (8 + length x)
+one_block c k x e =
+    ap (λ (n : ℕ). length (run (block_at c) 0 n)) (add-one k) ∙ ap length (run_more (block_at c) k) ∙ length-append (run (block_at c) 0 k) (block_at c k)
+    ∙ ap (λ (n : ℕ). length (run (block_at c) 0 k) + n) (ap length (sym e) ∙ block_length k x)
+
+-- PARAMETERS: the first n of them, from the value v on
+abbrev params_from : (v n : ℕ) → List ast.Param → List ℕ
+params_from v n ps = write_items (map param_item (param_values v (take n ps)))
+
+params_more : (v n : ℕ) (ps : List ast.Param) (p : Param) → param_is p ps n → params_from v (suc n) ps ≡ params_from v n ps ++ (bytes 2 (v + n) ++ write_type (parse_ir_type p.ty.0))
+unfolding write_items write_item param_values
+params_more v n [] p h = absurd h
+params_more v zero (q ∷ qs) p h = rw (h.1, add-zero v) (append-nil _)
+params_more v (suc n) (q ∷ qs) p h =
+    let e : suc v + n ≡ v + suc n = omega arith in
+    rw (← e) (ap (λ (x : List ℕ). (bytes 2 v ++ write_type (parse_ir_type q.ty)) ++ x) (params_more (suc v) n qs p h) ∙ sym (append_assoc _ (params_from (suc v) n qs) _))
+
+abbrev pub params_part : ℕ → List ast.Param → List ℕ
+params_part n ps = params_from 0 n ps
+
+pub param_next : (n : ℕ) (ps : List ast.Param) (p : Param) → param_is p ps n → params_part n ps ++ (bytes 2 n ++ write_type (parse_ir_type p.ty.0)) ≡ params_part (n + 1) ps
+param_next n ps p h = rw add-one (sym (rw zero-add at (params_more 0 n ps p h)))
+
+values_length : (v : ℕ) (ps : List ast.Param) → length (map param_item (param_values v ps)) ≡ length ps
+unfolding param_values
+values_length v [] = refl
+values_length v (p ∷ ps) = ap suc (values_length (suc v) ps)
+
+pub params_are : (ps : List ast.Param) → bytes 2 (length ps) ++ write_items (map param_item (param_values 0 ps)) ≡ write_value (group (map param_item (param_values 0 ps)))
+unfolding write_value
+params_are ps = rw (values_length 0 ps)
+
+pub type_length : (t : IrType) → length (write_type t) ≡ 4
+unfolding write_type
+type_length t = simp (length-append, length_bytes)
+
+values_size : (v : ℕ) (ps : List ast.Param) → length (write_items (map param_item (param_values v ps))) ≡ 6 * length ps
+unfolding write_items write_item param_values
+values_size v [] = refl
+values_size v (p ∷ ps) = simp (length-append, length_bytes, type_length, values_size (suc v) ps) (omega arith)
+
+pub params_length : (ps : List ast.Param) → length (write_value (group (map param_item (param_values 0 ps)))) ≡ 2 + 6 * length ps
+params_length ps = rw (← params_are ps) (simp (length-append, length_bytes, values_size 0 ps))
+
+-- LOCALS: the first of them
+abbrev pub locals_part : List CodeType → List ℕ
+locals_part ts = write_items (map ty (map as_type ts))
+
+locals_more : (ts : List CodeType) (i : ℕ) (d : CodeType) → i < length ts → locals_part (take i ts) ++ write_type (as_type (get_or ts i d)) ≡ locals_part (take (suc i) ts)
+unfolding write_items write_item
+locals_more [] i d h = absurd (omega arith)
+locals_more (t ∷ ts) zero d h = sym (append-nil _)
+locals_more (t ∷ ts) (suc i) d h = append_assoc (write_type (as_type t)) _ _ ∙ ap (λ (x : List ℕ). write_type (as_type t) ++ x) (locals_more ts i d (omega arith))
+
+pub local_next : (ts : List CodeType) (i : ℕ) (d : CodeType) → i < length ts → locals_part (take i ts) ++ write_type (as_type (get_or ts i d)) ≡ locals_part (take (i + 1) ts)
+local_next ts i d h = rw add-one (locals_more ts i d h)
+
+pub locals_are : (ts : List CodeType) → bytes 2 (length ts) ++ locals_part ts ≡ write_value (group (map ty (map as_type ts)))
+unfolding write_value
+locals_are ts = rw (length-map, length-map)
+
+types_size : (ls : List IrType) → length (write_items (map ty ls)) ≡ 4 * length ls
+unfolding write_items write_item
+types_size [] = refl
+types_size (t ∷ ls) = simp (length-append, type_length, types_size ls) (omega arith)
+
+locals_length : (ls : List IrType) → length (write_value (group (map ty ls))) ≡ 2 + 4 * length ls
+unfolding write_value
+locals_length ls = simp (length-append, length_bytes, types_size ls)
+
+-- THE START
+pub head_is : (size i : ℕ) (f : Function) (ls : List IrType)
+    → (((((bytes 4 size ++ bytes 2 51) ++ bytes 2 i) ++ bytes 2 f.name) ++ write_type (own_return_type f.return_type)) ++ write_value (group (map param_item (param_values 0 f.params)))) ++ write_value (group (map ty ls)) ≡ head_of size i f ls
+unfolding write_values write_value write_item
+head_is size i f ls = simp (append_assoc, append-nil)
+
+pub head_length : (size i : ℕ) (f : Function) (ls : List IrType) → length (head_of size i f ls) ≡ head_size f (length ls)
+head_length size i f ls = rw (← head_is size i f ls) (simp (length-append, length_bytes, type_length, params_length f.params, locals_length ls) (omega arith))
+
+-- THE WHOLE, and its size as the code adds it up
+pub sized : {n b : ℕ} (f : Function) (c : LogCtx) (ts : List CodeType) → n ≡ length f.params → map as_type ts ≡ c.locals → b ≡ length (blocks_part c) → 18 + 6 * n + 4 * length ts + b ≡ head_size f (length c.locals) + length (blocks_part c)
+sized f c ts p e q = omega (arith, p, ap length e, length-map ts as_type, q)
+
+module _ (i : ℕ) (f : Function) (c : LogCtx) where
+  whole_bytes : (size : ℕ) → size ≡ head_size f (length c.locals) + length (blocks_part c) → head_of size i f c.locals ++ blocks_part c ≡ function_bytes i f c
+  unfolding write_record function_bytes
+  whole_bytes size e =
+      let h : length (head_of size i f c.locals) ≡ 6 + length (head_bytes i f c.locals) = simp (length-append, length_bytes) (omega arith) in
+      let g : 6 + length (head_bytes i f c.locals ++ blocks_part c) ≡ size = omega (arith, h, e, head_length size i f c.locals, length-append (head_bytes i f c.locals) (blocks_part c)) in
+      rw (g, append_assoc (bytes 4 size), append_assoc (bytes 2 51))
+
+  pub whole_length : (size : ℕ) → size ≡ head_size f (length c.locals) + length (blocks_part c) → length (function_bytes i f c) ≡ size
+  whole_length size e = ap length (sym (whole_bytes size e)) ∙ (length-append (head_of size i f c.locals) (blocks_part c) ∙ omega (arith, e, head_length size i f c.locals))
+
+  pub whole_put : {l m n : List ℕ} {a b d : ℕ} (size : ℕ) → size ≡ head_size f (length c.locals) + length (blocks_part c) → Put (head_of size i f c.locals) l a m b → Put (blocks_part c) m b n d → Put (function_bytes i f c) l a n d
+  whole_put size e p q = put_as (whole_bytes size e) (p then q)
+
+  -- the blocks have room behind the start
+  pub blocks_room : {l m : List ℕ} {a b : ℕ} (size : ℕ) → size ≡ head_size f (length c.locals) + length (blocks_part c) → Put (head_of size i f c.locals) l a m b → a + size ≤ length l → b + length (blocks_part c) ≤ length m
+  blocks_room size e p h = omega (arith, e, h, p.past, put_length p, head_length size i f c.locals)
