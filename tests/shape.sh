@@ -55,9 +55,9 @@ twice=(insert '◌>>=◌' '◌>>◌')
 twice+=(answer_of error_of refusal_of Refusal)
 twice+=(for_header for_step init_local need_value new_ctx push_value switch_to terminate_if_open three_blocks with_local)
 # What the Rust has by one name and stands here as the kind of a record and as the node that has it, and what both sheets' nodes call alike.
-twice+=(Expr Stmt Instruction Terminator Kind Function Functions Param Blocks Ids ids_in ids_of_all functions_of function_in blocks_in form_of)
+twice+=(Expr Stmt Instruction Terminator Function Functions Param Blocks Ids ids_in ids_of_all functions_of function_in form_of)
 # Readings of the code's values by the name that the definitions have for what they give, each in the specs of one crate.
-twice+=(contract_of counted Grown id_of length_of local_word named number_of op_number Reads returned Stands value_word)
+twice+=(contract_of counted id_of length_of local_word named number_of op_number Reads returned Stands value_word)
 
 # The names that are declared twice and are not of those, and those that are not declared twice.
 names() {

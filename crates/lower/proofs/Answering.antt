@@ -24,7 +24,7 @@ use Rattle.lower_state.specs.declared.refusals.LoweringError.{LoweringError}
 use Rattle.lower_layout.specs.Laid.{Laid}
 use Rattle.lower_layout.proofs.Storing.{laid_then, laid_lost}
 use Rattle.lower_name_table.specs.NameTable.{names_of}
-use Rattle.lower.specs.Whole.{head_bytes, FunctionsPlaced, program_answer, AnsweredWith, answer_of, lower_rest, written_by}
+use Rattle.lower.specs.Whole.{program_head, FunctionsPlaced, program_answer, AnsweredWith, answer_of, lower_rest, written_by}
 use Rattle.lower.specs.declared.refusal.Refusal as lowering
 use Rattle.lower.specs.declared.refusal.Refusal.TheVariants as lower_refused
 use Rattle.writer.proofs.Stores.{then_zeros}
@@ -75,7 +75,7 @@ module _ (K : Contract) where
     pub names_lost : {after : List ℕ} → Laid (names_of K) mid to after None → Answered before after (code.Err lower_refused.NoRoom)
     names_lost l = answered (with_names l) (refused_31 (with_names l).laid)
 
-    pub finished : {after : List ℕ} {end : ℕ} → Laid (names_of K) mid to after (Some end) → Answered before (sets after 0 (head_bytes end)) (code.Ok end)
+    pub finished : {after : List ℕ} {end : ℕ} → Laid (names_of K) mid to after (Some end) → Answered before (sets after 0 (program_head end)) (code.Ok end)
     finished l = answered (with_names l) (accepted (with_names l).laid)
 
 -- THE CHECKS

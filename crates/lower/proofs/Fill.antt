@@ -17,7 +17,7 @@ use Rattle.definitions.specs.Records.{write_record}
 use Rattle.definitions.proofs.Results.{by_test}
 use Rattle.lower_layout.specs.Laid.{room_of, Laid}
 use Rattle.lower_layout.proofs.Storing.{laid_some, laid_then, laid_lost}
-use Rattle.lower.specs.Whole.{head_bytes, LaidFrom, program_answer, AnsweredWith}
+use Rattle.lower.specs.Whole.{program_head, LaidFrom, program_answer, AnsweredWith}
 use Rattle.lower.specs.declared.refusal.Refusal as lowering
 use Rattle.lower.specs.declared.refusal.Refusal.TheVariants as lower_refused
 
@@ -91,14 +91,14 @@ module _ {body before out : List ℕ} {to : ℕ} (f : Laid body before 6 out (So
   inside : 6 + length body ≤ room_of (length before)
   inside = (laid_some f).1
 
-  pub accepted : Done body before (sets out 0 (head_bytes to)) (code.Ok to)
+  pub accepted : Done body before (sets out 0 (program_head to)) (code.Ok to)
   unfolding write_record bytes
   accepted =
       let e : to ≡ 6 + length body = (laid_some f).0.past in
       let o : out ≡ sets before 6 body = (laid_some f).0.is in
       let w : room_of (length before) ≤ length before = (room_low (length before)).1 in
       let i : (leb (length (write_record 50 body)) 32768 && leb (length (write_record 50 body)) (length before)) ≡ true = rw (record_length body) (in_room (length before) (6 + length body) inside) in
-      let s : sets out 0 (head_bytes to) ≡ sets (sets before 6 body) 0 (head_bytes to) = ap (λ (l : List ℕ). sets l 0 (head_bytes to)) o in
-      let n : length (sets out 0 (head_bytes to)) ≡ length before = length-sets out 0 (head_bytes to) ∙ f.same_length in
-      let t : take (6 + length body) (sets out 0 (head_bytes to)) ≡ write_record 50 body = ap (take (6 + length body)) s ∙ headed before body (head_bytes to) refl (omega (arith, inside, w)) ∙ rw e refl in
+      let s : sets out 0 (program_head to) ≡ sets (sets before 6 body) 0 (program_head to) = ap (λ (l : List ℕ). sets l 0 (program_head to)) o in
+      let n : length (sets out 0 (program_head to)) ≡ length before = length-sets out 0 (program_head to) ∙ f.same_length in
+      let t : take (6 + length body) (sets out 0 (program_head to)) ≡ write_record 50 body = ap (take (6 + length body)) s ∙ headed before body (program_head to) refl (omega (arith, inside, w)) ∙ rw e refl in
       record { is = rw i (ap ok (e ∙ sym (record_length body))); same_length = n; holds = rw i (rw (n, record_length body) (omega (arith, inside, w)), rw (record_length body) t) }

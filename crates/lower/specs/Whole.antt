@@ -34,8 +34,8 @@ FunctionsPlaced K before after (code.Ok r) = (gs : List IrFunction) × ((lower_f
 FunctionsPlaced K before after (code.Err e) = (lower_functions K 0 K.functions ≡ err (error_of e)) × (length after ≡ length before)
 
 -- the program's head
-abbrev pub head_bytes : ℕ → List ℕ
-head_bytes n = bytes 4 n ++ bytes 2 50
+abbrev pub program_head : ℕ → List ℕ
+program_head n = bytes 4 n ++ bytes 2 50
 
 -- ANSWERS: document 01's number and values for each
 abbrev pub refusal_of : lowering.Refusal → Refusal

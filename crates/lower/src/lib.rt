@@ -6,7 +6,7 @@ ghost use Rattle.std.proofs.lemmas.List.Edits.{sets};
 ghost use Rattle.definitions.specs.Answers.{lower_sheet, length_of, output_of};
 ghost use Rattle.definitions.specs.Demand3.{Demand3Of};
 ghost use Rattle.contract_nodes.specs.Nodes.{contract_in, function_in};
-ghost use Rattle.lower.specs.Whole.{FunctionPlaced, FunctionsPlaced, head_bytes, answer_of, lower_rest, AnsweredWith, written_by};
+ghost use Rattle.lower.specs.Whole.{FunctionPlaced, FunctionsPlaced, program_head, answer_of, lower_rest, AnsweredWith, written_by};
 
 use contract_lookup::items::Functions;
 use contract_nodes::{Contract, Function};
@@ -56,7 +56,7 @@ fn place_functions(functions: &Functions, out: &mut [u8]) -> Result<Option<usize
 // The program's head, once its length is known.
 fn write_head(out: &mut [u8], end: usize)
     requires { 6 ≤ length out.old }
-    ensures { out.new ≡ sets out.old 0 (head_bytes end) }
+    ensures { out.new ≡ sets out.old 0 (program_head end) }
 {
     write(out, 0, 4, end);
     write(out, KIND, 2, u16::from(Kind::Program) as usize);

@@ -15,16 +15,16 @@ use Rattle.ir.specs.declared.IrType as code
 use Rattle.lower_walk.specs.Held.{Held}
 use Rattle.lower_walk.specs.Log.{Log}
 use Rattle.lower_walk.specs.Exprs.{Walked, push_value, need_value, walk_field, walk_expr, walk_expr_value}
-use Rattle.lower_state.specs.Answers.{after}
+use Rattle.lower_state.specs.Answers.{with_state}
 use Rattle.lower_state.specs.declared.refusals.LoweringError.TheVariants as refusal
-use Rattle.lower_values.specs.Values.{value_of}
+use Rattle.lower_values.specs.Values.{value_in}
 
 -- A PART of an expression is of the same sheet
 pub value_on_sheet : {s t : List ℕ} (E : Held) (x : Expr) (c : Log) {X : Lowering (Log × Value)} → s ≡ t → X ≡ walk_expr_value (read_contract s) E x c → X ≡ walk_expr_value (read_contract t) E x c
 value_on_sheet E x c h w = w ∙ ap (λ (s : List ℕ). walk_expr_value (read_contract s) E x c) h
 
 -- AN EXPRESSION THAT MUST GIVE A VALUE
-pub needed : (l : Log) (o : Option (ValueId × code.IrType)) → after value_of l (ok_or o refusal.VoidAsValue) ≡ (ok (l, option_of value_of o) >>= need_value)
+pub needed : (l : Log) (o : Option (ValueId × code.IrType)) → with_state value_in l (ok_or o refusal.VoidAsValue) ≡ (ok (l, option_of value_in o) >>= need_value)
 unfolding need_value
 needed l None = refl
 needed l (Some v) = refl

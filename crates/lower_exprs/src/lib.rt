@@ -5,8 +5,8 @@ ghost use Rattle.std.specs.Prelude.{◌≡◌, ◌≤◌};
 ghost use Rattle.ir.specs.Answers.{option_of};
 ghost use Rattle.contract_nodes.specs.Nodes.{contract_in, expr_in, exprs_in, count_of};
 ghost use Rattle.lower_walk.specs.Exprs.{walk_expr, walk_expr_value};
-ghost use Rattle.lower_state.specs.Answers.{after};
-ghost use Rattle.lower_values.specs.Values.{value_of, LogAlone};
+ghost use Rattle.lower_state.specs.Answers.{with_state};
+ghost use Rattle.lower_values.specs.Values.{value_in, LogAlone};
 ghost use Rattle.lower_exprs.specs.Calls.{call_of};
 
 use contract_nodes::{Expr, ExprNode, Exprs};
@@ -21,7 +21,7 @@ use lower_values::{Value, leaves};
 #[cycle(exprs)]
 #[tactic(auto, unfolding(lower_walk::specs::Exprs::walk_expr))]
 pub fn lower_expr(ctx: &mut FnCtx, scopes: &Scopes, e: Expr) -> Result<Option<Value>, LoweringError>
-    ensures is { after (option_of value_of) ctx.new.log result ≡ walk_expr (contract_in e.entry.contract) scopes.now.held (expr_in e.entry) ctx.old.log }
+    ensures is { with_state (option_of value_in) ctx.new.log result ≡ walk_expr (contract_in e.entry.contract) scopes.now.held (expr_in e.entry) ctx.old.log }
     ensures log_alone { LogAlone ctx.old ctx.new }
 {
     match e.node() {
@@ -49,7 +49,7 @@ pub fn lower_expr(ctx: &mut FnCtx, scopes: &Scopes, e: Expr) -> Result<Option<Va
 #[cycle(exprs)]
 #[tactic(auto, unfolding(lower_walk::specs::Exprs::walk_expr_value))]
 pub fn lower_expr_value(ctx: &mut FnCtx, scopes: &Scopes, e: Expr) -> Result<Value, LoweringError>
-    ensures is { after value_of ctx.new.log result ≡ walk_expr_value (contract_in e.entry.contract) scopes.now.held (expr_in e.entry) ctx.old.log }
+    ensures is { with_state value_in ctx.new.log result ≡ walk_expr_value (contract_in e.entry.contract) scopes.now.held (expr_in e.entry) ctx.old.log }
     ensures log_alone { LogAlone ctx.old ctx.new }
 {
     lower_expr(ctx, scopes, e)?.ok_or(LoweringError::VoidAsValue)
@@ -64,7 +64,7 @@ fn lower_call(
     args: Exprs,
 ) -> Result<Option<Value>, LoweringError>
     requires { count_of (exprs_in args) ≤ 16 }
-    ensures is { after (option_of value_of) ctx.new.log result ≡ call_of (contract_in args.entry.contract) scopes.now.held name.0 (exprs_in args.entry) ctx.old.log }
+    ensures is { with_state (option_of value_in) ctx.new.log result ≡ call_of (contract_in args.entry.contract) scopes.now.held name.0 (exprs_in args.entry) ctx.old.log }
     ensures log_alone { LogAlone ctx.old ctx.new }
 {
     let callee = callee_named(args.contract, name, args.len())?;

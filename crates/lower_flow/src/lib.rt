@@ -6,7 +6,7 @@ ghost use Rattle.std.proofs.Math.Option.{none, some};
 ghost use Rattle.definitions.specs.Ir.{Terminator};
 ghost use Rattle.ir.specs.Types.{as_type};
 ghost use Rattle.lower_walk.specs.Stmts.{terminate, terminate_if_open, next_arm, init_local};
-ghost use Rattle.lower_state.specs.Answers.{after};
+ghost use Rattle.lower_state.specs.Answers.{with_state};
 
 use ir::{BlockId, IrType, LocalId, ValueId};
 use lower_emit::{emit_branch, emit_jump, emit_return, emit_return_none, emit_write_local};
@@ -71,7 +71,7 @@ pub fn next_arm(ctx: &mut FnCtx, target: BlockId, next: BlockId)
 
 // A new local to which a value is written at once.
 pub fn init_local(ctx: &mut FnCtx, ty: IrType, value: ValueId) -> Result<LocalId, LoweringError>
-    ensures { after (λ l. l.0) ctx.new result ≡ init_local (as_type ty) value.0 ctx.old }
+    ensures { with_state (λ l. l.0) ctx.new result ≡ init_local (as_type ty) value.0 ctx.old }
 {
     let local = ctx.new_local(ty)?;
     emit_write_local(ctx, local, value);

@@ -15,7 +15,7 @@ use Rattle.lower_walk.specs.Log.{counted}
 use Rattle.lower_walk.specs.Held.{Held}
 use Rattle.lower_walk.specs.Stmts.{LogCtx, with_log, init_local}
 use Rattle.lower_walk.specs.Layout.{walk_params}
-use Rattle.lower_names.specs.HeldNames.{HeldNames, held_name, declared}
+use Rattle.lower_names.specs.HeldNames.{HeldNames, held_name, with_name}
 
 -- ONE PARAMETER: a value is taken, and its local is made; then those behind it
 abbrev taken : LogCtx → LogCtx
@@ -59,7 +59,7 @@ module _ {ps : List Param} {R : Lowering (LogCtx × Held)} {c : LogCtx} {names :
     pub refuses : {x : LoweringError} → err x ≡ init_local t v d → err x ≡ R
     refuses h = walked h
 
-    pub one_more : {f : LogCtx} {local : ℕ} {later : HeldNames} → ok (f, local) ≡ init_local t v d → later ≡ declared p.name.0 local t names → Going ps R f later (i + 1)
+    pub one_more : {f : LogCtx} {local : ℕ} {later : HeldNames} → ok (f, local) ≡ init_local t v d → later ≡ with_name p.name.0 local t names → Going ps R f later (i + 1)
     one_more {f} h e =
         rw e
         (record {

@@ -18,7 +18,7 @@ use Rattle.definitions.proofs.Results.{by_test}
 use Rattle.ir.specs.Answers.{option_of}
 use Rattle.ir.specs.Types.{as_type}
 use Rattle.lower_walk.specs.Held.{Held, names}
-use Rattle.lower_names.specs.HeldNames.{HeldNames, declared, outside}
+use Rattle.lower_names.specs.HeldNames.{HeldNames, with_name, outside}
 use Rattle.lower_names.specs.Entries.{held_of, nothing, held_in, local_of}
 use Rattle.lower_names.specs.declared.held.Entry.{Entry}
 
@@ -52,7 +52,7 @@ module _ (l : List Entry) (n scope : ℕ) {v : HeldNames} (view-is : record { he
   pub count_is : n ≡ length v.held
   count_is = sym (held_length l n) ∙ ap length held_are
 
-  pub more_is : (e : Entry) → e.scope ≡ scope → n < length l → ◌≡◌ {A = HeldNames} (record { held = held_in (set l n e) (n + 1); scope = scope }) (declared e.name.0 e.local.0 (as_type e.ty) v)
+  pub more_is : (e : Entry) → e.scope ≡ scope → n < length l → ◌≡◌ {A = HeldNames} (record { held = held_in (set l n e) (n + 1); scope = scope }) (with_name e.name.0 e.local.0 (as_type e.ty) v)
   more_is e q h = rw (← view-is, one_more l n e h, q)
 
   pub cut : (m : ℕ) → m ≤ n → record { held = held_in l m; scope = scope - 1 } ≡ outside m v

@@ -21,11 +21,11 @@ unfoldable pub held_in : List Entry → ℕ → Held
 held_in l zero = []
 held_in l (suc n) = held_of (get_or l n nothing) ∷ held_in l n
 
-abbrev pub names_in : Inside → HeldNames
-names_in s = record { held = held_in s.entries s.count; scope = s.scope }
+abbrev pub held_names_in : Inside → HeldNames
+held_names_in s = record { held = held_in s.entries s.count; scope = s.scope }
 
-abbrev pub Fits : Inside → Type 0
-Fits s = (s.count ≤ 256) × (length s.entries ≡ 256)
+abbrev pub EntriesFit : Inside → Type 0
+EntriesFit s = (s.count ≤ 256) × (length s.entries ≡ 256)
 
 -- a name's local and type
 abbrev pub local_of : LocalId × code.IrType → ℕ × IrType

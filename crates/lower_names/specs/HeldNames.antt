@@ -12,8 +12,8 @@ abbrev pub held_name : (scope name local : ℕ) → IrType → HeldName
 held_name scope name local t = record { scope = scope; name = name; local = local; type = t }
 
 -- one name more
-abbrev pub declared : (name local : ℕ) → IrType → HeldNames → HeldNames
-declared name local t h = record { held = held_name h.scope name local t ∷ h.held; scope = h.scope }
+abbrev pub with_name : (name local : ℕ) → IrType → HeldNames → HeldNames
+with_name name local t h = record { held = held_name h.scope name local t ∷ h.held; scope = h.scope }
 
 -- a scope inside, and the scope around it again, with the oldest `mark` names
 abbrev pub inside : HeldNames → HeldNames

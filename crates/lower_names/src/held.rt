@@ -36,11 +36,11 @@ impl Model for Scopes {
 
     ghost Value = { HeldNames };
 
-    ghost use Rattle.lower_names.specs.Entries.{names_in, Fits};
+    ghost use Rattle.lower_names.specs.Entries.{held_names_in, EntriesFit};
 
-    ghost view = { names_in };
+    ghost view = { held_names_in };
 
-    ghost invariant = { Fits };
+    ghost invariant = { EntriesFit };
 }
 
 impl Scopes {
@@ -49,7 +49,7 @@ impl Scopes {
     ghost use Rattle.ir.specs.Answers.{option_of};
     ghost use Rattle.ir.specs.Types.{as_type};
     ghost use Rattle.lower_walk.specs.Held.{names};
-    ghost use Rattle.lower_names.specs.HeldNames.{declared, inside, outside};
+    ghost use Rattle.lower_names.specs.HeldNames.{with_name, inside, outside};
     ghost use Rattle.lower_names.specs.Entries.{local_of};
 
     // No name is held, and a function's own scope is open.
@@ -84,7 +84,7 @@ impl Scopes {
     // One name more is held, in the innermost scope.
     pub fn declare(&mut self, name: Name, local: LocalId, ty: IrType)
         requires { length self.old.held < 256 }
-        ensures { self.new ≡ declared name.0 local.0 (as_type ty) self.old }
+        ensures { self.new ≡ with_name name.0 local.0 (as_type ty) self.old }
     {
         self.entries[self.count] = Entry {
             name,

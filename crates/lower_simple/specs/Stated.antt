@@ -1,8 +1,11 @@
--- What a statement leaves. Assumes nothing: these are definitions.
+-- What a statement comes to, and what it leaves. Assumes nothing: these are definitions.
 use Rattle.std.specs.Prelude.{Result}
+use Rattle.definitions.specs.Ast.{Stmt}
 use Rattle.definitions.specs.Lower.{Lowering}
+use Rattle.contract_nodes.specs.Nodes.{contract_in}
+use Rattle.contract_nodes.specs.declared.contract.Contract.{Contract}
 use Rattle.lower_walk.specs.Held.{Held}
-use Rattle.lower_walk.specs.Stmts.{LogCtx}
+use Rattle.lower_walk.specs.Stmts.{LogCtx, walk_stmt}
 use Rattle.lower_state.specs.Answers.{done_after}
 use Rattle.lower_state.specs.declared.refusals.LoweringError.{LoweringError}
 use Rattle.lower_names.specs.HeldNames.{HeldNames}
@@ -10,3 +13,7 @@ use Rattle.lower_names.specs.HeldNames.{HeldNames}
 -- the state, and the names that are held
 abbrev pub stated : LogCtx → HeldNames → Result (Unit {0}) LoweringError → Lowering (LogCtx × Held)
 stated c h r = done_after (c, h.held) r
+
+-- the walk of a statement of a contract, with the names that are held
+abbrev pub stmt_on : Contract → HeldNames → Stmt → LogCtx → Lowering (LogCtx × Held)
+stmt_on K h x c = walk_stmt (contract_in K) h.scope h.held x c

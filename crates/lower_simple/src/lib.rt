@@ -3,9 +3,8 @@
 
 ghost use Rattle.std.specs.Prelude.{◌≡◌, ℕ, ◌≤◌, length};
 ghost use Rattle.definitions.specs.Ast.{Stmt, present};
-ghost use Rattle.contract_nodes.specs.Nodes.{contract_in, expr_in, exprs_in, count_of};
-ghost use Rattle.lower_walk.specs.Stmts.{walk_stmt};
-ghost use Rattle.lower_simple.specs.Stated.{stated};
+ghost use Rattle.contract_nodes.specs.Nodes.{expr_in, exprs_in, count_of};
+ghost use Rattle.lower_simple.specs.Stated.{stated, stmt_on};
 
 use contract_lookup::symbols::storage_slot;
 use contract_nodes::{Expr, Exprs};
@@ -25,7 +24,7 @@ pub fn lower_let(
     e: Expr,
 ) -> Result<(), LoweringError>
     requires { length scopes.old.held ≤ length ctx.old.locals }
-    ensures is { (p : ℕ) → stated ctx.new scopes.new result ≡ walk_stmt (contract_in e.entry.contract) scopes.old.scope scopes.old.held (Stmt.Let p name.0 (expr_in e.entry)) ctx.old }
+    ensures is { (p : ℕ) → stated ctx.new scopes.new result ≡ stmt_on e.entry.contract scopes.old (Stmt.Let p name.0 (expr_in e.entry)) ctx.old }
     ensures same_scope { scopes.new.scope ≡ scopes.old.scope }
 {
     let (value, ty) = lower_expr_value(ctx, scopes, e)?;
@@ -37,7 +36,7 @@ pub fn lower_let(
 // Constrain.
 #[tactic(auto, unfolding(lower_walk::specs::Stmts::walk_stmt))]
 pub fn lower_constrain(ctx: &mut FnCtx, scopes: &Scopes, e: Expr) -> Result<(), LoweringError>
-    ensures { (p : ℕ) → stated ctx.new scopes.now result ≡ walk_stmt (contract_in e.entry.contract) scopes.now.scope scopes.now.held (Stmt.Constrain p (expr_in e.entry)) ctx.old }
+    ensures { (p : ℕ) → stated ctx.new scopes.now result ≡ stmt_on e.entry.contract scopes.now (Stmt.Constrain p (expr_in e.entry)) ctx.old }
 {
     let (value, _) = lower_expr_value(ctx, scopes, e)?;
     emit_assert(ctx, value);
@@ -52,7 +51,7 @@ pub fn lower_assign(
     name: Name,
     e: Expr,
 ) -> Result<(), LoweringError>
-    ensures { (p : ℕ) → stated ctx.new scopes.now result ≡ walk_stmt (contract_in e.entry.contract) scopes.now.scope scopes.now.held (Stmt.Assign p name.0 (expr_in e.entry)) ctx.old }
+    ensures { (p : ℕ) → stated ctx.new scopes.now result ≡ stmt_on e.entry.contract scopes.now (Stmt.Assign p name.0 (expr_in e.entry)) ctx.old }
 {
     let (value, _) = lower_expr_value(ctx, scopes, e)?;
     let (local, _) = scopes
@@ -70,7 +69,7 @@ pub fn lower_storage_write(
     name: Name,
     e: Expr,
 ) -> Result<(), LoweringError>
-    ensures { (p : ℕ) → stated ctx.new scopes.now result ≡ walk_stmt (contract_in e.entry.contract) scopes.now.scope scopes.now.held (Stmt.StorageWrite p name.0 (expr_in e.entry)) ctx.old }
+    ensures { (p : ℕ) → stated ctx.new scopes.now result ≡ stmt_on e.entry.contract scopes.now (Stmt.StorageWrite p name.0 (expr_in e.entry)) ctx.old }
 {
     let slot = storage_slot(e.contract, name).ok_or(LoweringError::UndefinedVariable(name))?;
     let (value, _) = lower_expr_value(ctx, scopes, e)?;
@@ -81,7 +80,7 @@ pub fn lower_storage_write(
 // Return of a value.
 #[tactic(auto, unfolding(lower_walk::specs::Stmts::walk_stmt, lower_walk::specs::Stmts::walk_return))]
 pub fn lower_return(ctx: &mut FnCtx, scopes: &Scopes, e: Expr) -> Result<(), LoweringError>
-    ensures { (p : ℕ) → stated ctx.new scopes.now result ≡ walk_stmt (contract_in e.entry.contract) scopes.now.scope scopes.now.held (Stmt.Return p (present (expr_in e.entry))) ctx.old }
+    ensures { (p : ℕ) → stated ctx.new scopes.now result ≡ stmt_on e.entry.contract scopes.now (Stmt.Return p (present (expr_in e.entry))) ctx.old }
 {
     let (value, _) = lower_expr_value(ctx, scopes, e)?;
     return_value(ctx, value);
@@ -96,7 +95,7 @@ pub fn lower_emit(
     args: Exprs,
 ) -> Result<(), LoweringError>
     requires { count_of (exprs_in args) ≤ 16 }
-    ensures { (p : ℕ) → stated ctx.new scopes.now result ≡ walk_stmt (contract_in args.entry.contract) scopes.now.scope scopes.now.held (Stmt.Emit p event.0 (exprs_in args.entry)) ctx.old }
+    ensures { (p : ℕ) → stated ctx.new scopes.now result ≡ stmt_on args.entry.contract scopes.now (Stmt.Emit p event.0 (exprs_in args.entry)) ctx.old }
 {
     let mut values = Args::new();
     for arg in args {
@@ -110,7 +109,7 @@ pub fn lower_emit(
 // An expression as a statement; what it gives is not used.
 #[tactic(auto, unfolding(lower_walk::specs::Stmts::walk_stmt))]
 pub fn lower_expr_stmt(ctx: &mut FnCtx, scopes: &Scopes, e: Expr) -> Result<(), LoweringError>
-    ensures { (p : ℕ) → stated ctx.new scopes.now result ≡ walk_stmt (contract_in e.entry.contract) scopes.now.scope scopes.now.held (Stmt.ExprStmt p (expr_in e.entry)) ctx.old }
+    ensures { (p : ℕ) → stated ctx.new scopes.now result ≡ stmt_on e.entry.contract scopes.now (Stmt.ExprStmt p (expr_in e.entry)) ctx.old }
 {
     lower_expr(ctx, scopes, e)?;
     Ok(())

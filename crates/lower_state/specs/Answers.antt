@@ -6,8 +6,8 @@ use Rattle.lower_state.specs.Errors.{error_of}
 use Rattle.lower_state.specs.declared.refusals.LoweringError.{LoweringError}
 
 -- a state s, and what the code gave; a state alone
-abbrev pub after : {S A B : Type 0} → (A → B) → S → Result A LoweringError → Lowering (S × B)
-after f s r = result_of error_of (λ a. (s, f a)) r
+abbrev pub with_state : {S A B : Type 0} → (A → B) → S → Result A LoweringError → Lowering (S × B)
+with_state f s r = result_of error_of (λ a. (s, f a)) r
 
 abbrev pub done_after : {S : Type 0} → S → Result (Unit {0}) LoweringError → Lowering S
 done_after s r = result_of error_of (λ u. s) r

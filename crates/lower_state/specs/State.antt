@@ -1,5 +1,5 @@
 -- The code's state in the words of the walk. Assumes nothing: these are definitions.
-use Rattle.std.specs.Prelude.{ℕ, ◌≤◌, ◌<◌, List, map, take, length, set, ltb, true}
+use Rattle.std.specs.Prelude.{ℕ, ◌≤◌, ◌<◌, List, map, take, length, set, ltb, true, get_or}
 use Rattle.definitions.specs.Ir.{IrType}
 use Rattle.definitions.specs.Records.{pick}
 use Rattle.definitions.specs.Result.{err, ok}
@@ -39,3 +39,7 @@ new_local t c = pick (ltb (length c.locals) 256) (ok (with_local t c, length c.l
 -- the current block's records stop where the log ends
 abbrev pub closed : LogCtx → LogCtx
 closed c = record { fid = c.fid; log = c.log; next_block = c.next_block; current = c.current; ended = true; locals = c.locals; starts = c.starts; stops = set c.stops c.current c.log.at }
+
+-- the records of the block k stand in the log, which holds all
+abbrev pub BlockWithin : LogCtx → (k : ℕ) → Type 0
+BlockWithin c k = (get_or c.starts k 0 ≤ get_or c.stops k 0) × ((get_or c.stops k 0 ≤ c.log.at) × (c.log.at ≤ 32768))

@@ -69,9 +69,9 @@ impl FnCtx {
     ghost use Rattle.lower_walk.specs.Log.{append, counted};
     ghost use Rattle.lower_walk.specs.Stmts.{with_log, switch_to, three_blocks};
     ghost use Rattle.lower_walk.specs.Layout.{new_ctx, slice};
-    ghost use Rattle.lower_state.specs.Answers.{after};
+    ghost use Rattle.lower_state.specs.Answers.{with_state};
     ghost use Rattle.lower_state.specs.Bytes.{record_bytes, list_bytes, ids_of};
-    ghost use Rattle.lower_state.specs.State.{blocks_of, closed, new_local};
+    ghost use Rattle.lower_state.specs.State.{blocks_of, closed, new_local, BlockWithin};
 
     pub fn new(function: FunctionId) -> FnCtx
         ensures { result ≡ new_ctx function.0 (replicate 256 0) (replicate 256 0) }
@@ -118,7 +118,7 @@ impl FnCtx {
 
     // Three blocks, or none if one of them would be the 257th.
     pub fn three_blocks(&mut self) -> Result<Blocks, LoweringError>
-        ensures is { after blocks_of self.new result ≡ three_blocks self.old }
+        ensures is { with_state blocks_of self.new result ≡ three_blocks self.old }
         ensures refused { IfErr result (λ e. self.new ≡ self.old) }
     {
         if MOST_BLOCKS - 3 < self.counters.block as usize {
@@ -136,7 +136,7 @@ impl FnCtx {
 
     // A local, unless it would be the 257th.
     pub fn new_local(&mut self, ty: IrType) -> Result<LocalId, LoweringError>
-        ensures is { after (λ l. l.0) self.new result ≡ new_local (as_type ty) self.old }
+        ensures is { with_state (λ l. l.0) self.new result ≡ new_local (as_type ty) self.old }
         ensures refused { IfErr result (λ e. self.new ≡ self.old) }
     {
         if MOST_LOCALS <= self.counters.local as usize {
@@ -225,7 +225,7 @@ impl FnCtx {
     // The records of a block.
     pub fn records(&self, block: BlockId) -> &[u8]
         requires among { block.0 < self.now.next_block }
-        requires within { (get_or self.now.starts block.0 0 ≤ get_or self.now.stops block.0 0) × ((get_or self.now.stops block.0 0 ≤ self.now.log.at) × (self.now.log.at ≤ 32768)) }
+        requires within { BlockWithin self.now block.0 }
         ensures { result.now ≡ slice self.now.log.bytes (get_or self.now.starts block.0 0) (get_or self.now.stops block.0 0) }
     {
         let span = self.spans[block.0 as usize];

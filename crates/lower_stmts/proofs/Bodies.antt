@@ -13,7 +13,7 @@ use Rattle.lower_walk.specs.Held.{Held}
 use Rattle.lower_walk.specs.Exprs.{walk_expr_value}
 use Rattle.lower_walk.specs.Stmts.{LogCtx, with_log, Blocks, Bounds, next_arm, terminate_if_open, terminate, switch_to, enter_if, enter_while, two_locals, init_local, for_locals, for_blocks, for_step, walk_stmt, walk_stmts}
 use Rattle.lower_walk.proofs.Grown.{Grown, grown-refl, stmts_grown, local_made}
-use Rattle.lower_names.specs.HeldNames.{HeldNames, declared, inside}
+use Rattle.lower_names.specs.HeldNames.{HeldNames, with_name, inside}
 use Rattle.lower_stmts.specs.Bodies.{if_on}
 
 -- the statements of an arm or a body, as the walk of its sheet has them, and with the names that the code holds
@@ -114,7 +114,7 @@ module _ (K : Contract) (n : ℕ) (es : Held) where
   -- FOR
   module _ (p q var : ℕ) (start end : Expr) (a : Stmts) (c : LogCtx) where
     abbrev names : ℕ → HeldNames
-    names l = declared var l IrType.U64 (inside (record { held = es; scope = n }))
+    names l = with_name var l IrType.U64 (inside (record { held = es; scope = n }))
 
     leave : Bounds → Blocks → LogCtx → Lowering (LogCtx × Held)
     leave i k c = ok (switch_to k.third (for_step i.loop k.first c), es)

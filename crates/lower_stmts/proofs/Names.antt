@@ -13,7 +13,7 @@ use Rattle.definitions.proofs.Results.{taking, ok_inj}
 use Rattle.lower_walk.specs.Held.{HeldName, Held}
 use Rattle.lower_walk.specs.Exprs.{walk_expr_value}
 use Rattle.lower_walk.specs.Stmts.{LogCtx, with_log, init_local, walk_stmt}
-use Rattle.lower_names.specs.HeldNames.{HeldNames, declared, inside, outside}
+use Rattle.lower_names.specs.HeldNames.{HeldNames, with_name, inside, outside}
 use Rattle.lower_simple.specs.Stated.{stated}
 use Rattle.lower_state.specs.declared.refusals.LoweringError.{LoweringError}
 use Rattle.lower_stmts.specs.Bodies.{Extends}
@@ -26,9 +26,9 @@ extends_on f g = record {
 }
 
 -- FOR: its name is held in its body, and behind it the same names as before
-module _ {h₀ h₁ h₂ : HeldNames} {name local : ℕ} {t : IrType} (i : h₁ ≡ inside h₀) (d : h₂ ≡ declared name local t h₁) where
-  pub held_in_body : h₂ ≡ declared name local t (inside h₀)
-  held_in_body = d ∙ ap (declared name local t) i
+module _ {h₀ h₁ h₂ : HeldNames} {name local : ℕ} {t : IrType} (i : h₁ ≡ inside h₀) (d : h₂ ≡ with_name name local t h₁) where
+  pub held_in_body : h₂ ≡ with_name name local t (inside h₀)
+  held_in_body = d ∙ ap (with_name name local t) i
 
   pub same_behind : {h₃ h₄ : HeldNames} {mark : ℕ} → Extends h₂ h₃ → mark ≡ length h₀.held → h₄ ≡ outside mark h₃ → h₄ ≡ h₀
   same_behind {h₃} {mark = mark} f m q =

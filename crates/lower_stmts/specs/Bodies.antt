@@ -4,6 +4,7 @@ use Rattle.definitions.specs.Ast as ast
 use Rattle.definitions.specs.Ast.{Contract}
 use Rattle.definitions.specs.Result.{ok, ◌>>=◌}
 use Rattle.definitions.specs.Lower.{Lowering}
+use Rattle.contract_nodes.specs.Nodes.{contract_in, expr_in, stmts_in}
 use Rattle.contract_nodes.specs.declared.expr.Expr.{Expr}
 use Rattle.contract_nodes.specs.declared.stmt.Stmts.{Stmts}
 use Rattle.lower_walk.specs.Held.{Held}
@@ -21,6 +22,17 @@ if_on K n es cond a b c = do
   c ← walk_stmts K (suc n) es a c
   c ← walk_stmts K (suc n) es b (next_arm k.third k.second c)
   ok (next_arm k.third k.third c)
+
+-- the same of nodes
+abbrev pub if_nodes : Expr → (a b : Stmts) → HeldNames → LogCtx → Lowering LogCtx
+if_nodes e a b h c = if_on (contract_in e.contract) h.scope h.held (expr_in e) (stmts_in a) (stmts_in b) c
+
+-- a While and a For of nodes, at any places
+abbrev pub while_of : (p q : ℕ) → Expr → Stmts → ast.Stmt
+while_of p q e b = ast.Stmt.While p (expr_in e) q (stmts_in b)
+
+abbrev pub for_of : (p q n : ℕ) → (start end : Expr) → Stmts → ast.Stmt
+for_of p q n start end b = ast.Stmt.For p n (expr_in start) (expr_in end) q (stmts_in b)
 
 -- names may have been added to the innermost scope, and none is gone
 pub record Extends (before after : HeldNames) : Type 0 where

@@ -2,12 +2,11 @@
 #![tactic(auto)]
 
 ghost use Rattle.std.specs.Prelude.{◌≡◌, ℕ, ◌+◌, ◌≤◌, suc, length, IfOk};
-ghost use Rattle.definitions.specs.Ast as ast;
-ghost use Rattle.contract_nodes.specs.Nodes.{contract_in, expr_in, stmt_in, stmts_in};
-ghost use Rattle.lower_walk.specs.Stmts.{walk_stmt, walk_stmts};
+ghost use Rattle.contract_nodes.specs.Nodes.{contract_in, stmt_in, stmts_in};
+ghost use Rattle.lower_walk.specs.Stmts.{walk_stmts};
 ghost use Rattle.lower_state.specs.Answers.{done_after};
-ghost use Rattle.lower_simple.specs.Stated.{stated};
-ghost use Rattle.lower_stmts.specs.Bodies.{OneSheet, if_on, Extends};
+ghost use Rattle.lower_simple.specs.Stated.{stated, stmt_on};
+ghost use Rattle.lower_stmts.specs.Bodies.{OneSheet, if_nodes, while_of, for_of, Extends};
 
 use contract_nodes::{Expr, Stmt, StmtNode, Stmts};
 use ir::{IrType, Name};
@@ -43,7 +42,7 @@ fn lower_if(
     requires room { length scopes.old.held ≤ length ctx.old.locals }
     requires depth { (scopes.old.scope + 1 + then.depth ≤ 40) × (scopes.old.scope + 1 + otherwise.depth ≤ 40) }
     requires one_sheet { OneSheet condition then × OneSheet condition otherwise }
-    ensures is { done_after ctx.new result ≡ if_on (contract_in condition.entry.contract) scopes.old.scope scopes.old.held (expr_in condition.entry) (stmts_in then.entry) (stmts_in otherwise.entry) ctx.old }
+    ensures is { done_after ctx.new result ≡ if_nodes condition.entry then.entry otherwise.entry scopes.old ctx.old }
     ensures same_names { IfOk result (λ u. scopes.new ≡ scopes.old) }
 {
     let blocks = enter_if(ctx, scopes, condition)?;
@@ -66,7 +65,7 @@ fn lower_while(
     requires room { length scopes.old.held ≤ length ctx.old.locals }
     requires depth { scopes.old.scope + 1 + body.depth ≤ 40 }
     requires one_sheet { OneSheet condition body }
-    ensures is { (p q : ℕ) → stated ctx.new scopes.old result ≡ walk_stmt (contract_in condition.entry.contract) scopes.old.scope scopes.old.held (ast.Stmt.While p (expr_in condition.entry) q (stmts_in body.entry)) ctx.old }
+    ensures is { (p q : ℕ) → stated ctx.new scopes.old result ≡ stmt_on condition.entry.contract scopes.old (while_of p q condition.entry body.entry) ctx.old }
     ensures same_names { IfOk result (λ u. scopes.new ≡ scopes.old) }
 {
     let blocks = enter_while(ctx, scopes, condition)?;
@@ -88,7 +87,7 @@ fn lower_for(
     requires room { length scopes.old.held ≤ length ctx.old.locals }
     requires depth { scopes.old.scope + 1 + body.depth ≤ 40 }
     requires one_sheet { (end.contract.sheet.now ≡ start.contract.sheet.now) × OneSheet start body }
-    ensures is { (p q : ℕ) → stated ctx.new scopes.old result ≡ walk_stmt (contract_in start.entry.contract) scopes.old.scope scopes.old.held (ast.Stmt.For p name.0 (expr_in start.entry) (expr_in end.entry) q (stmts_in body.entry)) ctx.old }
+    ensures is { (p q : ℕ) → stated ctx.new scopes.old result ≡ stmt_on start.entry.contract scopes.old (for_of p q name.0 start.entry end.entry body.entry) ctx.old }
     ensures same_names { IfOk result (λ u. scopes.new ≡ scopes.old) }
 {
     let bounds = for_locals(ctx, scopes, start, end)?;
@@ -107,7 +106,7 @@ fn lower_for(
 fn lower_stmt(ctx: &mut FnCtx, scopes: &mut Scopes, t: Stmt) -> Result<(), LoweringError>
     requires room { length scopes.old.held ≤ length ctx.old.locals }
     requires depth { scopes.old.scope + t.depth ≤ 40 }
-    ensures is { stated ctx.new scopes.new result ≡ walk_stmt (contract_in t.entry.contract) scopes.old.scope scopes.old.held (stmt_in t.entry) ctx.old }
+    ensures is { stated ctx.new scopes.new result ≡ stmt_on t.entry.contract scopes.old (stmt_in t.entry) ctx.old }
     ensures names { IfOk result (λ u. Extends scopes.old scopes.new) }
 {
     match t.node() {

@@ -22,10 +22,10 @@ use Rattle.lower_names.specs.Offsets.{field_offset}
 use Rattle.lower_emit.specs.Emitted.{Pushes}
 use Rattle.lower_state.specs.Errors.{error_of}
 use Rattle.lower_state.specs.declared.refusals.LoweringError as refusals
-use Rattle.lower_values.specs.Values.{gives}
+use Rattle.lower_values.specs.Values.{gives_value}
 
 -- AN INSTRUCTION that gives a value
-pub pushed : {i : Instruction} {before after : LogCtx} {v : ValueId} (t : type.IrType) {u : IrType} → Pushes i before after v → as_type t ≡ u → gives after.log (v, t) ≡ push_value i u before.log
+pub pushed : {i : Instruction} {before after : LogCtx} {v : ValueId} (t : type.IrType) {u : IrType} → Pushes i before after v → as_type t ≡ u → gives_value after.log (v, t) ≡ push_value i u before.log
 unfolding push_value
 pushed t h e = rw (h.is, h.id, e) refl
 

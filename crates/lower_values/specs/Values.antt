@@ -1,6 +1,8 @@
 -- The code's answers in the words of the walk. Assumes nothing: these are definitions.
-use Rattle.std.specs.Prelude.{◌≡◌}
+use Rattle.std.specs.Prelude.{ℕ, ◌≡◌}
 use Rattle.std.proofs.Math.Option.{Option, some}
+use Rattle.definitions.specs.Ast.{BinOp}
+use Rattle.definitions.specs.Ir.{IrType, Instruction, binary_type}
 use Rattle.definitions.specs.Lower.{Value}
 use Rattle.format.specs.Contexts.{context_number}
 use Rattle.ir.specs.Types.{as_type}
@@ -8,20 +10,24 @@ use Rattle.ir.specs.declared.IrType as code
 use Rattle.ir.specs.declared.ValueId.{ValueId}
 use Rattle.lower_walk.specs.Log.{Log}
 use Rattle.lower_walk.specs.Stmts.{LogCtx, with_log}
-use Rattle.lower_walk.specs.Exprs.{Walked}
+use Rattle.lower_walk.specs.Exprs.{Walked, push_value}
 use Rattle.lower_values.specs.Calls.{Called, context, poseidon_call, user_call}
 use Rattle.lower_values.specs.declared.calls.Callee.{Callee}
 use Rattle.lower_values.specs.declared.calls.Callee.TheVariants as callee
 
-abbrev pub value_of : ValueId × code.IrType → Value
-value_of v = (v.0.0, as_type v.1)
+abbrev pub value_in : ValueId × code.IrType → Value
+value_in v = (v.0.0, as_type v.1)
 
 abbrev pub some_value : ValueId × code.IrType → Option Value
-some_value v = some (value_of v)
+some_value v = some (value_in v)
 
 -- a log, and the value that was given
-abbrev pub gives : Log → ValueId × code.IrType → Walked
-gives l v = (l, some_value v)
+abbrev pub gives_value : Log → ValueId × code.IrType → Walked
+gives_value l v = (l, some_value v)
+
+-- the value of an operator on two values, the left of type t
+abbrev pub push_binary : BinOp → IrType → (l r : ℕ) → Log → Walked
+push_binary op t l r c = push_value (Instruction.Binary op t l r) (binary_type op t) c
 
 -- the log alone has changed
 abbrev pub LogAlone : LogCtx → LogCtx → Type 0

@@ -4,10 +4,10 @@ ghost use Rattle.ir.specs.Answers.{result_of, option_of};
 ghost use Rattle.ir.specs.Types.{as_type};
 ghost use Rattle.contract_nodes.specs.Nodes.{contract_in};
 ghost use Rattle.lower_walk.specs.Exprs.{walk_user_call};
-ghost use Rattle.lower_state.specs.Answers.{after};
+ghost use Rattle.lower_state.specs.Answers.{with_state};
 ghost use Rattle.lower_state.specs.Errors.{error_of};
 ghost use Rattle.lower_values.specs.Calls.{resolve_user, resolve, finish_call};
-ghost use Rattle.lower_values.specs.Values.{value_of, called_of, LogAlone};
+ghost use Rattle.lower_values.specs.Values.{value_in, called_of, LogAlone};
 
 use crate::Value;
 use contract_lookup::symbols::signature_named;
@@ -56,7 +56,7 @@ pub fn callee_named(contract: Contract, name: Name, many: usize) -> Result<Calle
 // A call of a function, which gives nothing if its type is Void.
 #[tactic(auto, unfolding(lower_walk::specs::Exprs::walk_user_call))]
 fn call_user(ctx: &mut FnCtx, function: FunctionId, ty: IrType, args: &Args) -> Option<Value>
-    ensures is { (ctx.new.log, option_of value_of result) ≡ walk_user_call function.0 (as_type ty) args.now ctx.old.log }
+    ensures is { (ctx.new.log, option_of value_in result) ≡ walk_user_call function.0 (as_type ty) args.now ctx.old.log }
     ensures log_alone { LogAlone ctx.old ctx.new }
 {
     if ty == IrType::Void {
@@ -72,7 +72,7 @@ pub fn finish_call(
     callee: Callee,
     args: &Args,
 ) -> Result<Option<Value>, LoweringError>
-    ensures is { after (option_of value_of) ctx.new.log result ≡ finish_call (called_of callee) args.now ctx.old.log }
+    ensures is { with_state (option_of value_in) ctx.new.log result ≡ finish_call (called_of callee) args.now ctx.old.log }
     ensures log_alone { LogAlone ctx.old ctx.new }
 {
     match callee {

@@ -7,8 +7,8 @@ ghost use Rattle.format.specs.Operators.{op_number};
 ghost use Rattle.ir.specs.Types.{as_type};
 ghost use Rattle.contract_nodes.specs.Nodes.{contract_in};
 ghost use Rattle.lower_walk.specs.Exprs.{push_value, walk_ident, walk_storage_read, walk_field};
-ghost use Rattle.lower_state.specs.Answers.{after};
-ghost use Rattle.lower_values.specs.Values.{some_value, gives, LogAlone};
+ghost use Rattle.lower_state.specs.Answers.{with_state};
+ghost use Rattle.lower_values.specs.Values.{some_value, gives_value, push_binary, LogAlone};
 
 use crate::Value;
 use contract_lookup::symbols::storage_slot;
@@ -23,7 +23,7 @@ use lower_state::{FnCtx, LoweringError};
 // An integer.
 #[tactic(auto, unfolding(lower_walk::specs::Exprs::push_value))]
 pub fn lower_int(ctx: &mut FnCtx, number: usize) -> Value
-    ensures is { gives ctx.new.log result ≡ push_value (Instruction.Const defs.IrType.U64 number) defs.IrType.U64 ctx.old.log }
+    ensures is { gives_value ctx.new.log result ≡ push_value (Instruction.Const defs.IrType.U64 number) defs.IrType.U64 ctx.old.log }
     ensures log_alone { LogAlone ctx.old ctx.new }
 {
     (emit_const(ctx, number), IrType::U64)
@@ -31,7 +31,7 @@ pub fn lower_int(ctx: &mut FnCtx, number: usize) -> Value
 
 // A name that is held.
 pub fn lower_ident(ctx: &mut FnCtx, scopes: &Scopes, name: Name) -> Result<Value, LoweringError>
-    ensures is { after some_value ctx.new.log result ≡ walk_ident scopes.now.held name.0 ctx.old.log }
+    ensures is { with_state some_value ctx.new.log result ≡ walk_ident scopes.now.held name.0 ctx.old.log }
     ensures log_alone { LogAlone ctx.old ctx.new }
 {
     let (local, ty) = scopes
@@ -46,7 +46,7 @@ pub fn lower_storage_read(
     contract: Contract,
     name: Name,
 ) -> Result<Value, LoweringError>
-    ensures is { after some_value ctx.new.log result ≡ walk_storage_read (contract_in contract.entry) name.0 ctx.old.log }
+    ensures is { with_state some_value ctx.new.log result ≡ walk_storage_read (contract_in contract.entry) name.0 ctx.old.log }
     ensures log_alone { LogAlone ctx.old ctx.new }
 {
     let slot = storage_slot(contract, name).ok_or(LoweringError::UndefinedVariable(name))?;
@@ -61,7 +61,7 @@ pub fn lower_field(
     base: ValueId,
     ty: IrType,
 ) -> Result<Value, LoweringError>
-    ensures is { after some_value ctx.new.log result ≡ walk_field (contract_in contract.entry) field.0 base.0 (as_type ty) ctx.old.log }
+    ensures is { with_state some_value ctx.new.log result ≡ walk_field (contract_in contract.entry) field.0 base.0 (as_type ty) ctx.old.log }
     ensures log_alone { LogAlone ctx.old ctx.new }
 {
     let offset = field_offset(contract, ty, field)?;
@@ -81,7 +81,7 @@ fn binary_type(op: BinOp, ty: IrType) -> IrType
 // An operator on two values, the left of a type.
 #[tactic(auto, unfolding(lower_walk::specs::Exprs::push_value))]
 pub fn lower_binary(ctx: &mut FnCtx, op: BinOp, ty: IrType, lhs: ValueId, rhs: ValueId) -> Value
-    ensures is { gives ctx.new.log result ≡ push_value (Instruction.Binary (op_of (op_number op)) (as_type ty) lhs.0 rhs.0) (binary_type (op_of (op_number op)) (as_type ty)) ctx.old.log }
+    ensures is { gives_value ctx.new.log result ≡ push_binary (op_of (op_number op)) (as_type ty) lhs.0 rhs.0 ctx.old.log }
     ensures log_alone { LogAlone ctx.old ctx.new }
 {
     (emit_binary(ctx, op, ty, lhs, rhs), binary_type(op, ty))
