@@ -1,14 +1,16 @@
 -- What the nodes' ghost fields say, as the lemmas of this crate have it. Assumes nothing.
 use mathlib.Core.Path.{◌≡◌, refl, ap, sym}
-use mathlib.Core.Bool.{true}
+use mathlib.Core.Bool.{true, not}
 use mathlib.Core.Option.{Option, some}
-use Prim.Native.Nat.{◌+◌, ◌≤◌}
+use Prim.Native.Nat.{ℕ, ◌+◌, ◌≤◌}
 use native.Mathlib.Omega.{arith}
 use lib.ListN.{length}
-use borrow.Author.Tests.{leb-true}
+use borrow.Author.Tests.{leb-true, eq-eqb, ne_eqb}
+use lib.Dec.{eqb}
+use Rattle.definitions.proofs.Results.{by_test}
 use Rattle.std.specs.Prelude.{Result, Ok, Err, IsErrAnd}
 use Rattle.definitions.specs.Fields.{le}
-use Rattle.definitions.specs.Records.{Bad}
+use Rattle.definitions.specs.Records.{Bad, opt_from}
 use Rattle.sheet.specs.declared.errors.Malformed.{Malformed}
 use Rattle.format.specs.Kinds.{instr_number, term_number}
 use Rattle.format.specs.declared.kinds.Instruction.{Instruction as InstrKind}
@@ -21,9 +23,9 @@ use Rattle.ir.specs.Kinds.{rule_in}
 use Rattle.ir.specs.Types.{as_type}
 use Rattle.ir.specs.declared.IrType.{IrType as CodeType}
 use Rattle.ir.specs.declared.IrType.TheVariants as code
-use Rattle.program_nodes.specs.Nodes.{form_of, instr_in}
+use Rattle.program_nodes.specs.Nodes.{form_of, instr_in, gives}
 use Rattle.program_nodes.proofs.InstrRows.{own_typed, type_fits}
-use Rattle.program_nodes.specs.Positions.{type_here, has_type, type_offset, own_rule, by_rule, size_here, term_size, InstrTo, TermPlace, FunctionHere}
+use Rattle.program_nodes.specs.Positions.{kind_here, type_here, has_type, type_offset, own_rule, by_rule, size_here, term_size, InstrTo, TermPlace, FunctionHere}
 use Rattle.program_nodes.specs.declared.program.Program.{Program}
 use Rattle.program_nodes.specs.declared.program.Function.{Function}
 use Rattle.program_nodes.specs.declared.instr.Instr.{Instr}
@@ -39,39 +41,51 @@ program_is p = program_at p.sheet.now p.passed
 pub function_is : (f : Function) → FunctionHere f.program.sheet.now f.at f.first f.stop f.name.0
 function_is f = function_here_is (program_is f.program).records f.here
 
-pub instr_to : (i : Instr) → InstrTo i.sheet.now i.at i.stop (instr_number i.kind)
-instr_to i = instr_alone (kept i.here.0.0) i.here.0.1 i.here.1
+pub instr_to : (i : Instr) → InstrTo i.sheet.now i.at i.stop (kind_here i.sheet.now i.at)
+instr_to i = instr_alone (kept i.here.0) i.here.1 refl
 
-pub term_place : (t : Term) → TermPlace t.sheet.now t.at (term_number t.kind)
-term_place t = term_alone (kept t.here.0.0) t.here.0.1 t.here.1
+pub term_place : (t : Term) → TermPlace t.sheet.now t.at (kind_here t.sheet.now t.at)
+term_place t = term_alone (kept t.here.0) t.here.1 refl
 
--- how far the fixed fields of an instruction and of a terminator reach, by the kind that a match told
-pub instr_fits : (i : Instr) {k : InstrKind} → i.kind ≡ k → (i.at + size_here (instr_number k) ≤ i.stop) × (i.stop ≤ length i.sheet.now)
-instr_fits i e = let I = instr_to i in rw (← e) (I.room, I.inside)
+-- how far the fixed fields of an instruction and of a terminator reach, by the kind that was read and that a match told
+pub instr_fits : (i : Instr) {r k : InstrKind} → instr_number r ≡ kind_here i.sheet.now i.at → r ≡ k → (i.at + size_here (instr_number k) ≤ i.stop) × (i.stop ≤ length i.sheet.now)
+instr_fits i h e = let I = instr_to i in rw (← e, h) (I.room, I.inside)
 
-pub term_fits : (t : Term) {k : TermKind} → t.kind ≡ k → t.at + term_size (term_number k) ≤ length t.sheet.now
-term_fits t e = rw (← e) (term_place t).fits
+pub term_fits : (t : Term) {r k : TermKind} → term_number r ≡ kind_here t.sheet.now t.at → r ≡ k → t.at + term_size (term_number k) ≤ length t.sheet.now
+term_fits t h e = rw (← e, h) (term_place t).fits
 
 pub instr_result_fits : (i : Instr) → i.at + own_at ≤ i.stop
 instr_result_fits i = omega (arith, (instr_to i).room)
 
-pub binary_fits : (i : Instr) → IsBinary i.kind → i.at + (right_at + 2) ≤ i.stop
-binary_fits i b = let I = instr_to i in let e = binary_size i.kind b in omega (arith, I.room, e)
+pub binary_fits : (i : Instr) (r : InstrKind) → instr_number r ≡ kind_here i.sheet.now i.at → IsBinary r → i.at + (right_at + 2) ≤ i.stop
+binary_fits i r h b = let I = instr_to i in let e = rw h at (binary_size r b) in omega (arith, I.room, e)
 
-pub context_low : (i : Instr) → i.kind ≡ instr.ContextRead → le 2 i.sheet.now (i.at + own_at) ≤ 2
-context_low i e = let C = (instr_to i).place.context in leb-true _ _ (C (rw e refl))
+pub context_low : (i : Instr) {r : InstrKind} → instr_number r ≡ kind_here i.sheet.now i.at → r ≡ instr.ContextRead → le 2 i.sheet.now (i.at + own_at) ≤ 2
+context_low i h e = let C = (instr_to i).place.context in leb-true _ _ (C (rw (← h, e) refl))
 
 -- THE TYPE of an instruction's result, by its rule
-module _ (i : Instr) where
-  pub own_type_fits : has_type (instr_number i.kind) ≡ true → i.at + type_offset (instr_number i.kind) + 4 ≤ i.stop
-  own_type_fits h = let I = instr_to i in omega (arith, type_fits (instr_number i.kind) I.place.rules h, I.room)
+module _ (i : Instr) {n : ℕ} (h : n ≡ kind_here i.sheet.now i.at) where
+  instr_of : InstrTo i.sheet.now i.at i.stop n
+  instr_of = rw h (instr_to i)
 
-  module _ {o : Option ResultRule} (e : o ≡ rule_in (kind_row (instr_number i.kind))) where
-    pub has_own_type : own_rule o ≡ true → has_type (instr_number i.kind) ≡ true
-    has_own_type h = own_typed (instr_number i.kind) (instr_to i).place.rules (rw e at h)
+  pub own_type_fits : has_type n ≡ true → i.at + type_offset n + 4 ≤ i.stop
+  own_type_fits t = omega (arith, type_fits n instr_of.place.rules t, instr_of.room)
 
-    pub type_by_rule : {t : IrType} → t ≡ type_here i.sheet.now (i.at + type_offset (instr_number i.kind)) → by_rule o t ≡ result_type (instr_in i)
-    type_by_rule z = rw (e, z) (sym ((instr_to i).place.gives i.stop))
+  module _ {o : Option ResultRule} (e : o ≡ rule_in (kind_row n)) where
+    pub has_own_type : own_rule o ≡ true → has_type n ≡ true
+    has_own_type t = own_typed n instr_of.place.rules (rw e at t)
+
+    pub type_by_rule : {t : IrType} → t ≡ type_here i.sheet.now (i.at + type_offset n) → by_rule o t ≡ result_type (instr_in i)
+    type_by_rule z = rw (e, z, h) (sym ((instr_to i).place.gives i.stop))
+
+-- whether the result is the value v: x stands there, and was read as n
+pub gives_same : {n v x : ℕ} → n ≡ x → n ≡ v → not (eqb v 65535) ≡ gives v (opt_from x)
+unfolding opt_from
+gives_same {n} {v} e z = rw (← e, z) (by_test (eqb v 65535) (λ q. rw q refl) (λ q. rw (q, eq-eqb v v refl) refl))
+
+pub gives_other : {n v x : ℕ} → n ≡ x → (n ≡ v → ⊥) → eqb n v ≡ gives v (opt_from x)
+unfolding opt_from
+gives_other {n} {v} e z = rw (← e, ne_eqb n v z) (by_test (eqb n 65535) (λ q. rw q refl) (λ q. rw (q, ne_eqb n v z) refl))
 
 pub unless : (t : CodeType) → (t ≡ code.Void → ⊥) → unless_void (as_type t) ≡ some (as_type t)
 unless code.U64 n = refl

@@ -18,7 +18,7 @@ use Rattle.format.specs.declared.program.ContextKind.{ContextKind}
 use Rattle.format.specs.declared.program.ContextKind.TheVariants as context
 use Rattle.program_nodes.specs.Offsets.{own_at, left_at, right_at}
 use Rattle.program_nodes.specs.Positions.{type_here, instr_here, size_here, has_type, type_offset}
-use Rattle.format.specs.Kinds.{instr_number, term_number, in_block_number, IsInBlock}
+use Rattle.format.specs.Kinds.{instr_number, term_number, in_block_number, IsInBlock, Reads}
 use Rattle.format.specs.declared.kinds.InBlock.{InBlock}
 use Rattle.format.specs.declared.kinds.Instruction.{Instruction}
 use Rattle.format.specs.declared.kinds.Instruction.TheVariants as instr
@@ -90,9 +90,9 @@ pub context_is : {n : ℕ} {r : Result ContextKind UnknownKind} {k : ContextKind
 context_is h e = rw e at h
 
 -- WHAT STANDS IN A BLOCK has a kind, and is read as that
-pub in_block_ok : {n : ℕ} (r : Result InBlock UnknownKind) → IsInBlock n r → (k : InBlock) → in_block_number k ≡ n → IsOk r
-in_block_ok (Ok k) h j e = refl
-in_block_ok (Err x) h j e = absurd (h j e)
+pub kind_ok : {K : Type 0} (number : K → ℕ) {n : ℕ} (r : Result K UnknownKind) → Reads number n r → (k : K) × (number k ≡ n) → IsOk r
+kind_ok number (Ok k) h w = refl
+kind_ok number (Err x) h w = absurd (h w.0 w.1)
 
 pub in_block_is : {n : ℕ} {r : Result InBlock UnknownKind} {k j : InBlock} → IsInBlock n r → r ≡ Ok k → k ≡ j → in_block_number j ≡ n
 in_block_is h e z = rw z at (rw e at h)

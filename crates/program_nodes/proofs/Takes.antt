@@ -8,7 +8,6 @@ use lib.ListN.{length}
 use Rattle.definitions.specs.Fields.{le}
 use Rattle.definitions.specs.Records.{read_item, read_items, size_of}
 use Rattle.definitions.proofs.Sheets.Steps.{low}
-use Rattle.format.specs.Kinds.{instr_number, term_number}
 use Rattle.program_nodes.specs.Positions.{kind_here, stop_here, ids_here, first_block as first_place, FunctionStarts}
 use Rattle.program_nodes.specs.Nodes.{FirstFunction, FirstParam, FirstBlock, FirstInstr, FirstTerm, NoRecord, blocks_in, blocks_definitions_in}
 use Rattle.program_nodes.specs.Definitions.{param_definitions}
@@ -46,12 +45,12 @@ no_block old e = (blocks_end old.sheet.now e, no_blocks old.sheet.now e)
 
 -- an instruction, a terminator, nothing
 pub first_instr : {old new : Records} {i : Instr} → InstrStep old.sheet.now old.at old.end (stop_here old.sheet.now old.at)
-    → i.sheet.now ≡ old.sheet.now → i.at ≡ old.at → i.stop ≡ stop_here old.sheet.now old.at → instr_number i.kind ≡ kind_here old.sheet.now old.at
+    → i.sheet.now ≡ old.sheet.now → i.at ≡ old.at → i.stop ≡ stop_here old.sheet.now old.at
     → new.sheet.now ≡ old.sheet.now → new.at ≡ stop_here old.sheet.now old.at → new.end ≡ old.end → FirstInstr old new i
-first_instr I s a e k ns na ne = record {
-  instrs = rw (s, a, e, k, ns, na, ne) (instrs_step I);
+first_instr I s a e ns na ne = record {
+  instrs = rw (s, a, e, ns, na, ne) (instrs_step I);
   terminator = rw (ns, na, ne) (terminator_instr I);
-  definitions = rw (s, a, e, k, ns, na, ne) (instr_definitions I);
+  definitions = rw (s, a, e, ns, na, ne) (instr_definitions I);
   sheet = s;
   rest_sheet = ns;
   end = ne;
@@ -60,8 +59,8 @@ first_instr I s a e k ns na ne = record {
 }
 
 pub first_term : {old : Records} {t : Term} → TermStep old.sheet.now old.at old.end
-    → t.sheet.now ≡ old.sheet.now → t.at ≡ old.at → term_number t.kind ≡ kind_here old.sheet.now old.at → FirstTerm old t
-first_term T s a k = record { instrs = instrs_term T; terminator = rw (s, a, k) (terminator_term T); definitions = term_definitions T; sheet = s }
+    → t.sheet.now ≡ old.sheet.now → t.at ≡ old.at → FirstTerm old t
+first_term T s a = record { instrs = instrs_term T; terminator = rw (s, a) (terminator_term T); definitions = term_definitions T; sheet = s }
 
 pub no_record : (old : Records) → old.at ≡ old.end → NoRecord old
 no_record old e = record { instrs = instrs_end old.sheet.now e; terminator = terminator_end old.sheet.now e; definitions = end_definitions old.sheet.now e }

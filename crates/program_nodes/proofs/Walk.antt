@@ -172,6 +172,19 @@ term_alone {s} {q} {stop} f l e = rw e (go (one_step Class.terminator done f))
         let z : x ≡ stop = done_ends more in
         record { low = T.low; high = T.high; fits = omega (arith, T.fits) }
 
+-- its kind
+pub instr_kind_alone : {s : List ℕ} {q stop : ℕ} → Fine s q stop (one Class.instruction done) → (k : InstrKind) × (instr_number k ≡ kind_here s q)
+instr_kind_alone {s} {q} {stop} f = go (one_step Class.instruction done f)
+  where
+    go : One s q stop Class.instruction done → (k : InstrKind) × (instr_number k ≡ kind_here s q)
+    go (this hd kids more) = instr_kind (kind_here s q) _ _ hd.is
+
+pub term_kind_alone : {s : List ℕ} {q stop : ℕ} → Fine s q stop (one Class.terminator done) → (k : TermKind) × (term_number k ≡ kind_here s q)
+term_kind_alone {s} {q} {stop} f = go (one_step Class.terminator done f)
+  where
+    go : One s q stop Class.terminator done → (k : TermKind) × (term_number k ≡ kind_here s q)
+    go (this hd kids more) = term_kind (kind_here s q) _ _ hd.is
+
 -- THE INSTRUCTIONS AND THE TERMINATOR of a block's records from q on
 module _ {s : List ℕ} {q end stop : ℕ} (I : InstrStep s q end stop) where
   pub instrs_step : instrs_here s q end ≡ record { result = opt_from (le 2 s (q + fields_at)); instr = instr_here (kind_here s q) s q stop } ∷ instrs_here s stop end

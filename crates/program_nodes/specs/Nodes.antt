@@ -1,12 +1,12 @@
 -- What the nodes stand for: the program of the definitions. Assumes nothing: these are definitions.
-use Rattle.std.specs.Prelude.{ℕ, suc, ◌+◌, ◌≤◌, ◌<◌, ◌≡◌, Bool, true, false, List, [], ◌∷◌, ◌++◌, map, length, Option, None, Some, Result, Ok, Err}
+use Rattle.std.specs.Prelude.{ℕ, suc, ◌+◌, ◌≤◌, ◌<◌, ◌≡◌, Bool, true, false, List, [], ◌∷◌, ◌++◌, map, eqb, length, Option, None, Some, Result, Ok, Err}
 use Rattle.std.proofs.Math.Option as maths
 use Rattle.definitions.specs.Fields.{le}
 use Rattle.definitions.specs.Ir as ir
 use Rattle.definitions.specs.Grammar.{value_and_type}
 use Rattle.definitions.specs.Records.{Item, Form, Good, Bad, opt_from, number_of, type_of, read_items, read_records}
 use Rattle.definitions.specs.ProgramSheet.{binary_of}
-use Rattle.format.specs.Kinds.{instr_number, term_number}
+use Rattle.format.specs.Kinds.{instr_number}
 use Rattle.format.specs.declared.kinds.Instruction as kinds
 use Rattle.format.specs.declared.kinds.Instruction.TheVariants as kind
 use Rattle.format.specs.Contexts.{context_number}
@@ -16,7 +16,7 @@ use Rattle.ir.specs.declared.ValueId.{ValueId}
 use Rattle.sheet.specs.declared.errors.Malformed.{Malformed}
 use Rattle.program_nodes.specs.Offsets.{first_param_at, records_at, fields_at}
 use Rattle.program_nodes.specs.Positions as places
-use Rattle.program_nodes.specs.Positions.{type_here, ids_here, instr_here, term_here, instrs_here, terminator_here, block_here, blocks_here, functions_here, function_here}
+use Rattle.program_nodes.specs.Positions.{kind_here, type_here, ids_here, instr_here, term_here, instrs_here, terminator_here, block_here, blocks_here, functions_here, function_here}
 use Rattle.program_nodes.specs.Definitions.{Definition, param_definition, param_definitions, result_definition, block_definitions, blocks_definitions}
 use Rattle.program_nodes.specs.declared.program.Program.{Program}
 use Rattle.program_nodes.specs.declared.program.Functions.{Functions}
@@ -79,16 +79,21 @@ terminator_in w = terminator_here w.sheet.now w.at w.end
 
 -- an instruction, its result, and a terminator
 abbrev pub instr_in : Instr → ir.Instruction
-instr_in i = instr_here (instr_number i.kind) i.sheet.now i.at i.stop
+instr_in i = instr_here (kind_here i.sheet.now i.at) i.sheet.now i.at i.stop
 
 abbrev pub result_in : Instr → maths.Option ℕ
 result_in i = opt_from (le 2 i.sheet.now (i.at + fields_at))
+
+-- whether a result is the value v
+abbrev pub gives : ℕ → maths.Option ℕ → Bool
+gives v maths.none = false
+gives v (maths.some x) = eqb x v
 
 abbrev pub node_in : Instr → ir.InstrNode
 node_in i = record { result = result_in i; instr = instr_in i }
 
 abbrev pub term_in : Term → ir.Terminator
-term_in t = term_here (term_number t.kind) t.sheet.now t.at
+term_in t = term_here (kind_here t.sheet.now t.at) t.sheet.now t.at
 
 abbrev pub ids_in : Ids → List ℕ
 ids_in w = ids_here w.left w.sheet.now w.at

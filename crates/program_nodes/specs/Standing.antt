@@ -3,9 +3,6 @@ use Rattle.std.specs.Prelude.{ℕ, ◌+◌, ◌≤◌, ◌<◌, ◌≡◌, List,
 use Rattle.definitions.specs.Fields.{le}
 use Rattle.definitions.specs.Grammar.{Class, Pattern, done, one, perhaps, many}
 use Rattle.definitions.specs.Records.{check_records, Good}
-use Rattle.format.specs.Kinds.{instr_number, term_number}
-use Rattle.format.specs.declared.kinds.Instruction.{Instruction}
-use Rattle.format.specs.declared.kinds.Terminator.{Terminator}
 use Rattle.program_nodes.specs.Offsets.{function_name_at, records_at}
 use Rattle.program_nodes.specs.Positions.{kind_here, stop_here, first_block}
 
@@ -31,9 +28,9 @@ RecordsStand = Stand (many Class.instruction (perhaps Class.terminator done))
 abbrev pub BlockStands : List ℕ → (at stop : ℕ) → Type 0
 BlockStands s at stop = RecordsStand s (at + records_at) stop × (at + records_at ≤ stop)
 
--- an instruction and a terminator of a kind
-abbrev pub InstrStands : List ℕ → (at stop : ℕ) → Instruction → Type 0
-InstrStands s at stop kind = Stand (one Class.instruction done) s at stop × (instr_number kind ≡ kind_here s at)
+-- an instruction and a terminator
+abbrev pub InstrStands : List ℕ → (at stop : ℕ) → Type 0
+InstrStands = Stand (one Class.instruction done)
 
-abbrev pub TermStands : List ℕ → (at stop : ℕ) → Terminator → Type 0
-TermStands s at stop kind = Stand (one Class.terminator done) s at stop × (term_number kind ≡ kind_here s at)
+abbrev pub TermStands : List ℕ → (at stop : ℕ) → Type 0
+TermStands = Stand (one Class.terminator done)

@@ -105,21 +105,17 @@ impl<'a> Iterator for Records<'a> {
         if self.end <= at {
             return None;
         }
-        let stop = at + read(sheet, at, 4);
-        self.at = stop;
         match InBlock::try_from(read_u16(sheet, at + KIND)).unwrap() {
-            InBlock::Instruction(kind) => Some(Record::Instr(Instr {
-                sheet,
-                at,
-                stop,
-                kind,
-            })),
-            InBlock::Terminator(kind) => Some(Record::Term(Term {
-                sheet,
-                at,
-                stop,
-                kind,
-            })),
+            InBlock::Instruction(_) => {
+                let stop = at + read(sheet, at, 4);
+                self.at = stop;
+                Some(Record::Instr(Instr { sheet, at, stop }))
+            }
+            InBlock::Terminator(_) => {
+                let stop = self.end;
+                self.at = stop;
+                Some(Record::Term(Term { sheet, at, stop }))
+            }
         }
     }
 }

@@ -5,21 +5,20 @@ ghost use Rattle.program_nodes.specs.Standing.{InstrStands};
 ghost use Rattle.program_nodes.specs.Positions.{type_here};
 
 use format::program::ContextKind;
-use format::{ABSENT, ID, kinds, program};
+use format::{ABSENT, ID, KIND, kinds, program};
 use ir::{FunctionId, IrType, LocalId, Name, ResultRule, ValueId};
 use reader::{read, read_u16};
 
 // The right operand of a Poseidon.
 const POSEIDON_RIGHT: usize = program::POSEIDON_LEFT + ID;
 
-// An instruction by its place and its kind, and where its record stops.
+// An instruction by its place, and where its record stops.
 #[derive(Clone, Copy, Debug)]
 pub struct Instr<'a> {
     pub sheet: &'a [u8],
     pub at: usize,
     pub stop: usize,
-    pub kind: kinds::Instruction,
-    pub ghost here: { InstrStands sheet.now at stop kind },
+    pub ghost here: { InstrStands sheet.now at stop },
 }
 
 // So many values from a place on: the arguments of a call or an event.
@@ -64,8 +63,8 @@ impl<'a> Instr<'a> {
     ghost use Rattle.definitions.specs.Ir.{result_type};
     ghost use Rattle.format.specs.Kinds.{instr_number};
     ghost use Rattle.ir.specs.Answers.{option_of};
-    ghost use Rattle.program_nodes.specs.Positions.{ids_here, has_type, type_offset};
-    ghost use Rattle.program_nodes.specs.Nodes.{instr_in, instr_is, is_access, result_in, value_of, ids_in};
+    ghost use Rattle.program_nodes.specs.Positions.{ids_here, kind_here, has_type, type_offset};
+    ghost use Rattle.program_nodes.specs.Nodes.{instr_in, instr_is, is_access, gives, result_in, value_of, ids_in};
 
     // The id that stands at an offset, the type, and the number of so many bytes.
     fn id(self, offset: usize) -> u16
@@ -89,6 +88,21 @@ impl<'a> Instr<'a> {
         read(self.sheet, self.at + offset, bytes)
     }
 
+    // Its kind.
+    pub fn kind(self) -> kinds::Instruction
+        ensures { instr_number result ≡ kind_here self.entry.sheet.now self.entry.at }
+    {
+        kinds::Instruction::try_from(self.id(KIND)).unwrap()
+    }
+
+    // Whether it defines the value: compared as numbers, since the search for a definition asks it of each record.
+    pub fn gives(self, v: ValueId) -> bool
+        ensures { result ≡ gives v.0 (result_in self.entry) }
+    {
+        let value = self.id(program::RESULT);
+        value == v.0 && v.0 != ABSENT
+    }
+
     // The value that it defines, if there is one.
     pub fn result(self) -> Option<ValueId>
         ensures { option_of value_of result ≡ result_in self.entry }
@@ -102,11 +116,11 @@ impl<'a> Instr<'a> {
     }
 
     // The type among its own fields.
-    fn own_type(self) -> IrType
-        requires { has_type (instr_number self.kind) ≡ true }
-        ensures { as_type result ≡ type_here self.entry.sheet.now (self.entry.at + type_offset (instr_number self.entry.kind)) }
+    fn own_type(self, kind: kinds::Instruction) -> IrType
+        requires { (instr_number kind ≡ kind_here self.sheet.now self.at) × (has_type (instr_number kind) ≡ true) }
+        ensures { as_type result ≡ type_here self.entry.sheet.now (self.entry.at + type_offset (instr_number kind)) }
     {
-        let offset = match self.kind {
+        let offset = match kind {
             kinds::Instruction::ReadLocal | kinds::Instruction::Call => program::TYPE_SECOND,
             _ => program::TYPE_FIRST,
         };
@@ -130,9 +144,10 @@ impl<'a> Instr<'a> {
     pub fn result_type(self) -> Option<IrType>
         ensures { option_of as_type result ≡ result_type (instr_in self.entry) }
     {
-        match ir::kind_row(self.kind).result {
-            ResultRule::Own => Some(self.own_type()),
-            ResultRule::OwnUnlessVoid => match self.own_type() {
+        let kind = self.kind();
+        match ir::kind_row(kind).result {
+            ResultRule::Own => Some(self.own_type(kind)),
+            ResultRule::OwnUnlessVoid => match self.own_type(kind) {
                 IrType::Void => None,
                 ty => Some(ty),
             },
@@ -146,7 +161,8 @@ impl<'a> Instr<'a> {
     pub fn node(self) -> Instruction<'a>
         ensures { instr_is result ≡ instr_in self.entry }
     {
-        match self.kind {
+        let kind = self.kind();
+        match kind {
             kinds::Instruction::Const => Instruction::Const(
                 self.ty(program::CONST_TYPE),
                 self.number(program::CONST_VALUE, 8),
@@ -161,7 +177,7 @@ impl<'a> Instr<'a> {
             | kinds::Instruction::Le
             | kinds::Instruction::Gt
             | kinds::Instruction::Ge => Instruction::Binary(
-                self.kind,
+                kind,
                 self.ty(program::BINARY_TYPE),
                 ValueId(self.id(program::LEFT)),
                 ValueId(self.id(program::RIGHT)),
@@ -182,16 +198,16 @@ impl<'a> Instr<'a> {
             | kinds::Instruction::ReadLocal
             | kinds::Instruction::WriteLocal
             | kinds::Instruction::Call
-            | kinds::Instruction::ContextRead => self.access_node(),
+            | kinds::Instruction::ContextRead => self.access_node(kind),
         }
     }
 
     // What it is, if it reaches beyond values: for memory, a state word, a local, a function or the context.
-    fn access_node(self) -> Instruction<'a>
-        requires { is_access self.kind ≡ true }
+    fn access_node(self, kind: kinds::Instruction) -> Instruction<'a>
+        requires { (instr_number kind ≡ kind_here self.sheet.now self.at) × (is_access kind ≡ true) }
         ensures { instr_is result ≡ instr_in self.entry }
     {
-        match self.kind {
+        match kind {
             kinds::Instruction::Load => Instruction::Load(
                 self.ty(program::LOAD_TYPE),
                 ValueId(self.id(program::LOAD_BASE)),

@@ -1,18 +1,17 @@
 // Terminators and what they are.
 ghost use Rattle.program_nodes.specs.Standing.{TermStands};
 
-use format::{ABSENT, kinds, program};
+use format::{ABSENT, KIND, kinds, program};
 use ir::{BlockId, ValueId};
 use reader::read_u16;
 
-// A terminator by its place and its kind, and where its record stops.
+// A terminator by its place, and where its record stops.
 #[derive(Clone, Copy, Debug)]
 pub struct Term<'a> {
     pub sheet: &'a [u8],
     pub at: usize,
     pub stop: usize,
-    pub kind: kinds::Terminator,
-    pub ghost here: { TermStands sheet.now at stop kind },
+    pub ghost here: { TermStands sheet.now at stop },
 }
 
 // What a terminator is (`Terminator` of `ir/mod.rs`).
@@ -26,14 +25,23 @@ pub enum Terminator {
 
 impl Term<'_> {
     ghost use Rattle.std.specs.Prelude.{◌≡◌};
+    ghost use Rattle.format.specs.Kinds.{term_number};
+    ghost use Rattle.program_nodes.specs.Positions.{kind_here};
     ghost use Rattle.program_nodes.specs.Nodes.{term_in, term_is};
 
+    fn kind(self) -> kinds::Terminator
+        ensures { term_number result ≡ kind_here self.entry.sheet.now self.entry.at }
+    {
+        kinds::Terminator::try_from(read_u16(self.sheet, self.at + KIND)).unwrap()
+    }
+
+    // What it is.
     pub fn node(self) -> Terminator
         ensures { term_is result ≡ term_in self.entry }
     {
         let s = self.sheet;
         let q = self.at;
-        match self.kind {
+        match self.kind() {
             kinds::Terminator::Jump => Terminator::Jump(BlockId(read_u16(s, q + program::TARGET))),
             kinds::Terminator::Branch => Terminator::Branch(
                 ValueId(read_u16(s, q + program::CONDITION)),

@@ -6,7 +6,7 @@ use mathlib.Core.Option.{Option, none, some}
 use Prim.Native.Nat.{ℕ, suc, ◌+◌, ◌-◌}
 use native.Mathlib.Omega.{arith}
 use Rattle.std.specs.Prelude.{Some}
-use Rattle.format.specs.Kinds.{instr_number}
+use Rattle.program_nodes.specs.Positions.{kind_here}
 use Rattle.definitions.specs.Result.{err, ok, ◌>>=◌}
 use Rattle.definitions.specs.Ir.{IrType, Instruction, InstrNode, BasicBlock, result_type}
 use Rattle.definitions.specs.InstrTable.{kind_of}
@@ -162,7 +162,7 @@ module _ {f : Function} {own ds : List Definition} {whole : Defined → Checked 
 pub false_true : {b : Bool} → b ≡ false → b ≡ true → ⊥
 false_true e f = let z : ◌≡◌ {A = Bool} false true = sym e ∙ f in let y : ◌≡◌ {A = ℕ} 0 1 = cc in omega arith
 
-pub kind_is : (i : Instr) → instr_number i.kind ≡ kind_of (instr_in i)
+pub kind_is : (i : Instr) → kind_here i.sheet.now i.at ≡ kind_of (instr_in i)
 kind_is i = sym ((instr_to i).place.kind_is i.stop)
 
 pub an_instr : {old new : Records} {r : Record} {i : Instr} → TakesRecord old new (Some r) → r ≡ record'.Instr i → FirstInstr old new i

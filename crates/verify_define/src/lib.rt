@@ -30,7 +30,7 @@ fn define_result(f: Function<'_>, instr: Instr<'_>) -> Result<(), VerifyError>
     };
     let first = verify_lookup::is_first_definition(f, value, instr.at);
     let Some(_) = instr.result_type() else {
-        let kind = u16::from(Kind::InBlock(InBlock::Instruction(instr.kind)));
+        let kind = u16::from(Kind::InBlock(InBlock::Instruction(instr.kind())));
         return Err(VerifyError::ResultOnNone(f.name, kind));
     };
     if !first {

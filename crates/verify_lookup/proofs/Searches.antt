@@ -7,17 +7,16 @@ use mathlib.Core.Option.{none, some}
 use Prim.Native.Nat.{ℕ}
 use native.Mathlib.Omega.{arith}
 use lib.Dec.{eqb}
-use borrow.Author.Tests.{eqb-true, eqb-false, eq-eqb, ne_eqb}
+use borrow.Author.Tests.{eqb-true, eq-eqb, ne_eqb}
 use Rattle.std.specs.Prelude.{Option, None, Some}
-use Rattle.std.specs.Option.{option_eq, is_some}
+use Rattle.std.specs.Option.{is_some}
 use Rattle.definitions.specs.Ir.{Instruction, BasicBlock, IrFunction, find, contains}
 use Rattle.definitions.specs.Bench.{function_with}
 use Rattle.definitions.specs.Verify.{block_ids, function_ids}
 use Rattle.definitions.proofs.Results.{by_test}
 use Rattle.ir.specs.Answers.{option_of}
-use Rattle.ir.specs.declared.ValueId.{ValueId}
 use Rattle.program_nodes.specs.Definitions.{Definition, instr_definition, result_definition, first_definition}
-use Rattle.program_nodes.specs.Nodes.{value_of, FirstInstr, FirstTerm, TakesRecord}
+use Rattle.program_nodes.specs.Nodes.{gives, FirstInstr, FirstTerm, TakesRecord}
 use Rattle.program_nodes.specs.declared.block.Records.{Records}
 use Rattle.program_nodes.specs.declared.block.Record.{Record}
 use Rattle.program_nodes.specs.declared.block.Record.TheVariants as record'
@@ -48,14 +47,16 @@ unfolding first_definition
 instr_miss q v none i es e z = rw e
 instr_miss q v (some x) i es e z = rw (e, ne_eqb x v (λ w. z (ap some (sym w))))
 
--- whether a result is the value, as the code compares them
-pub is_value : (r : Option ValueId) (v : ValueId) → option_eq (λ (a b : ValueId). eqb a.0 b.0) r (Some v) ≡ true → some v.0 ≡ option_of value_of r
-is_value None v e = absurd (let z : ◌≡◌ {A = ℕ} 0 1 = cc in omega arith)
-is_value (Some a) v e = ap some (sym (eqb-true a.0 v.0 e))
+-- whether a result is the value, as the code asks
+false_true : {b : Bool} → b ≡ false → b ≡ true → ⊥
+false_true e f = let z : ◌≡◌ {A = Bool} false true = sym e ∙ f in let y : ◌≡◌ {A = ℕ} 0 1 = cc in omega arith
 
-pub no_value : (r : Option ValueId) (v : ValueId) → option_eq (λ (a b : ValueId). eqb a.0 b.0) r (Some v) ≡ false → some v.0 ≡ option_of value_of r → ⊥
-no_value None v e z = absurd (let y : ◌≡◌ {A = ℕ} 0 1 = cc in omega arith)
-no_value (Some a) v e z = eqb-false a.0 v.0 e (let y : v.0 ≡ a.0 = cc in sym y)
+pub is_value : (v : ℕ) (r : maths.Option ℕ) {b : Bool} → b ≡ gives v r → b ≡ true → some v ≡ r
+is_value v none e z = absurd (false_true e z)
+is_value v (some x) e z = ap some (sym (eqb-true x v (sym e ∙ z)))
+
+pub no_value : (v : ℕ) (r : maths.Option ℕ) {b : Bool} → b ≡ gives v r → b ≡ false → some v ≡ r → ⊥
+no_value v r e z w = false_true z (e ∙ rw (← w) (eq-eqb v v refl))
 
 -- a record that a match told
 pub an_instr : {old new : Records} {r : Record} {i : Instr} → TakesRecord old new (Some r) → r ≡ record'.Instr i → FirstInstr old new i

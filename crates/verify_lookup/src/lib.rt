@@ -62,7 +62,7 @@ fn find_in_block<'a>(block: Block<'a>, v: ValueId) -> Option<Instr<'a>>
     for record in block.records() {
         match record {
             Record::Instr(instr) => {
-                if instr.result() == Some(v) {
+                if instr.gives(v) {
                     return Some(instr);
                 }
             }
@@ -72,7 +72,8 @@ fn find_in_block<'a>(block: Block<'a>, v: ValueId) -> Option<Instr<'a>>
     None
 }
 
-// The first definition of v, a parameter or an instruction.
+// The first definition of v, a parameter or an instruction. Inlined: as a call it hands the function and the definition over in memory.
+#[inline(always)]
 pub fn first_definition<'a>(f: Function<'a>, v: ValueId) -> Option<Definition<'a>>
     ensures { option_of (definition_in v.0) result ≡ first_definition v.0 (definitions_of f.entry) }
 {

@@ -6,17 +6,17 @@ use Rattle.program_nodes.specs.Positions.{type_offset}
 use Rattle.program_nodes.proofs.KindNumbers.{type_first, type_second}
 use Rattle.program_nodes.proofs.Facts.{own_type_fits}
 use Rattle.program_nodes.proofs.instr.Instr.own_type.Goals as goal
-use Rattle.program_nodes.proofs.instr.Instr.own_type.Goals.{in-ReadLocal, in_default, Joined-self}
+use Rattle.program_nodes.proofs.instr.Instr.own_type.Goals.{in-ReadLocal, in_default, Joined-kind}
 
-offset : (c : Joined-self) → type_offset (instr_number c.args.self.kind) ≡ c.match-self.offset
+offset : (c : Joined-kind) → type_offset (instr_number c.args.kind) ≡ c.match-kind.offset
 offset c =
-    elim c.match-self.branch [
-      | in-ReadLocal w ↦ rw w.offset-is (type_second c.args.self.kind w.in-ReadLocal.is)
-      | in_default w ↦ rw w.offset-is (type_first c.args.self.kind c.requires w.in_default.not-ReadLocal w.in_default.not-Call)
+    elim c.match-kind.branch [
+      | in-ReadLocal w ↦ rw w.offset-is (type_second c.args.kind w.in-ReadLocal.is)
+      | in_default w ↦ rw w.offset-is (type_first c.args.kind c.requires.1 w.in_default.not-ReadLocal w.in_default.not-Call)
     ]
 
 pub ty-requires : goal.ty-requires
-ty-requires c = omega (arith, own_type_fits c.args.self c.requires, offset c)
+ty-requires c = omega (arith, own_type_fits c.args.self c.requires.0 c.requires.1, offset c)
 
 pub returns : goal.returns
-returns c = rw (offset (goal.at.returns c).Joined-self) c.ty.ensures
+returns c = rw (offset (goal.at.returns c).Joined-kind) c.ty.ensures

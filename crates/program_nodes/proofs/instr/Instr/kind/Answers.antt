@@ -1,0 +1,14 @@
+-- `program_nodes::instr::Instr::kind`: the number is that of a kind. Assumes nothing.
+use native.Mathlib.Omega.{arith}
+use Rattle.format.specs.Kinds.{instr_number}
+use Rattle.program_nodes.proofs.Stand.{kept}
+use Rattle.program_nodes.proofs.KindNumbers.{kind_ok}
+use Rattle.program_nodes.proofs.Walk.{instr_kind_alone}
+use Rattle.program_nodes.proofs.Facts.{instr_result_fits}
+use Rattle.program_nodes.proofs.instr.Instr.kind.Goals as goal
+
+pub id-requires : goal.id-requires
+id-requires c = omega (arith, instr_result_fits c.args.self)
+
+pub unwrap-requires : goal.unwrap-requires
+unwrap-requires c = kind_ok instr_number _ (rw c.id.ensures at c.try_from.ensures) (instr_kind_alone (kept c.args.self.here.0))
