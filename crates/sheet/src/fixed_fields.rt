@@ -68,8 +68,9 @@ impl Entry {
         }
     }
 
-    // Whether so many entries from a place on are valid: a loop for each kind of entry, which does not ask the kind in each turn.
-    #[inline(always)]
+    // Whether so many entries from a place on are valid: a loop for each kind of entry, which does not ask the kind in each turn. Inlined, it adds
+    // half to the stack of each level of `records`.
+    #[inline(never)]
     #[tactic(auto, unfolding(definitions::specs::Records::size_of, definitions::specs::Records::ok_item))]
     fn all_valid(self, s: &[u8], at: usize, count: usize) -> bool
         requires { at + size_of (entry_of self) * count ≤ length s.now }
