@@ -6,7 +6,7 @@ use Rattle.lower_state.proofs.records.put_record.Goals as goal
 pub returns-in_err-at : goal.returns-in_err-at
 unfolding record_bytes
 returns-in_err-at c =
-    rw c.from_residual.ensures (stays_lost _ (stays_lost _ (stays_lost _ (stays_lost _ (stays_lost _ (stays_lost _ ((rw c.in_err-at.was at c.put.ensures))))))))
+    rw c.from_residual.ensures (stays_lost _ (stays_lost _ (stays_lost _ (stays_lost _ (stays_lost _ (stays_lost _ (rw c.in_err-at.was at c.put.ensures)))))))
 
 pub returns-in_err-at-2 : goal.returns-in_err-at-2
 unfolding record_bytes
