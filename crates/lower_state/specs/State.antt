@@ -1,5 +1,5 @@
 -- The code's state in the words of the walk. Assumes nothing: these are definitions.
-use Rattle.std.specs.Prelude.{ℕ, ◌≤◌, ◌<◌, List, map, take, length, set, ltb, true, get_or}
+use Rattle.std.specs.Prelude.{ℕ, ◌≤◌, ◌<◌, List, map, take, length, set, ltb, true, get_or, IfSome}
 use Rattle.definitions.specs.Ir.{IrType}
 use Rattle.definitions.specs.Records.{pick}
 use Rattle.definitions.specs.Result.{err, ok}
@@ -8,6 +8,7 @@ use Rattle.ir.specs.Types.{as_type}
 use Rattle.lower_walk.specs.Log.{log_of}
 use Rattle.lower_walk.specs.Stmts as walk
 use Rattle.lower_walk.specs.Stmts.{LogCtx, with_local}
+use Rattle.lower_state.specs.Bytes.{log_end}
 use Rattle.lower_state.specs.declared.ctx.Blocks.{Blocks}
 use Rattle.lower_state.specs.declared.ctx.Span.{Span}
 use Rattle.lower_state.specs.declared.ctx.FnCtx.TheInside.{Inside}
@@ -21,13 +22,14 @@ stops_of spans = map (λ (s : Span). s.stop) spans
 
 abbrev pub ctx_in : Inside → LogCtx
 ctx_in c =
-    record { fid = c.function.0; log = log_of c.log c.counters.value c.to; next_block = c.counters.block; current = c.current.0; ended = c.ended; locals = map as_type (take c.counters.local c.locals); starts = starts_of c.spans; stops = stops_of c.spans }
+    record { fid = c.function.0; log = log_of c.log c.counters.value (log_end c.to); next_block = c.counters.block; current = c.current.0; ended = c.ended; locals = map as_type (take c.counters.local c.locals); starts = starts_of c.spans; stops = stops_of c.spans }
 
--- up to 256 blocks and locals, and the current block is one of them
+-- up to 256 blocks and locals, the current block is one of them, and the log's end is in its room
 pub record Sound (c : Inside) : Type 0 where
   pub blocks : c.counters.block ≤ 256
   pub locals : c.counters.local ≤ 256
   pub current : c.current.0 < c.counters.block
+  pub to : IfSome c.to (λ n. n ≤ 32768)
 
 abbrev pub blocks_of : Blocks → walk.Blocks
 blocks_of b = record { first = b.first.0; second = b.second.0; third = b.third.0 }

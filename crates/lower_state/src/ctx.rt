@@ -1,8 +1,9 @@
 // A function under way.
-ghost use Rattle.std.specs.Prelude.{◌≡◌};
+ghost use Rattle.std.specs.Prelude.{◌≡◌, ◌≤◌, IfSome};
 ghost use Rattle.lower_walk.specs.Log.{capped};
+ghost use Rattle.lower_state.specs.Bytes.{log_end};
 
-use crate::records::{put_ids, put_record};
+use crate::records::{put_list, put_record};
 use crate::{LOST, Log, LoweringError, MOST_BLOCKS, MOST_LOCALS, Part};
 use format::MOST;
 use ir::{BlockId, FunctionId, IrType, LocalId, ValueId};
@@ -25,7 +26,7 @@ pub struct Blocks {
 }
 
 // A function under way (`FnCtx`): its id, the next value, block and local, the current block and whether that has its terminator, the
-// place behind the log's last record, which is `LOST` once a record did not fit, the log, the types of the locals, and where each
+// place behind the log's last record, which is None once a record did not fit, the log, the types of the locals, and where each
 // block's records stand.
 #[derive(Drop)]
 pub struct FnCtx {
@@ -33,7 +34,7 @@ pub struct FnCtx {
     counters: Counters,
     current: BlockId,
     ended: bool,
-    to: usize,
+    to: Option<usize>,
     log: Log,
     locals: [IrType; MOST_LOCALS],
     spans: [Span; MOST_BLOCKS],
@@ -53,13 +54,11 @@ impl Model for FnCtx {
 }
 
 // A place of the log as a number of a span: one stands for all that are over the room.
-fn place_of(to: usize) -> u32
-    ensures { result ≡ capped to }
+fn place_of(to: Option<usize>) -> u32
+    requires { IfSome to (λ n. n ≤ 32768) }
+    ensures { result ≡ capped (log_end to) }
 {
-    if MOST < to {
-        return LOST as u32;
-    }
-    to as u32
+    to.unwrap_or(LOST) as u32
 }
 
 impl FnCtx {
@@ -76,16 +75,18 @@ impl FnCtx {
     pub fn new(function: FunctionId) -> FnCtx
         ensures { result ≡ new_ctx function.0 (replicate 256 0) (replicate 256 0) }
     {
+        let mut counters = Counters {
+            value: 0,
+            block: 0,
+            local: 0,
+        };
+        let current = counters.next_block();
         FnCtx {
             function,
-            counters: Counters {
-                value: 0,
-                block: 1,
-                local: 0,
-            },
-            current: BlockId(0),
+            counters,
+            current,
             ended: false,
-            to: 0,
+            to: Some(0),
             log: [0; MOST],
             locals: [IrType::U64; MOST_LOCALS],
             spans: [Span { start: 0, stop: 0 }; MOST_BLOCKS],
@@ -100,12 +101,12 @@ impl FnCtx {
         self.function = function;
         self.counters = Counters {
             value: 0,
-            block: 1,
+            block: 0,
             local: 0,
         };
-        self.current = BlockId(0);
+        self.current = self.counters.next_block();
         self.ended = false;
-        self.to = 0;
+        self.to = Some(0);
         self.spans[0].start = 0;
     }
 
@@ -152,7 +153,9 @@ impl FnCtx {
         requires { (a.0 ≤ 8) × ((b.0 ≤ 8) × (c.0 ≤ 8)) }
         ensures { self.new ≡ with_log (append (record_bytes kind first a b c 0) self.old.log) self.old }
     {
-        self.to = put_record(&mut self.log, self.to, kind, first, a, b, c, 0);
+        if let Some(at) = self.to {
+            self.to = put_record(&mut self.log, at, kind, first, a, b, c, 0);
+        }
     }
 
     // A record that ends in ids.
@@ -160,18 +163,9 @@ impl FnCtx {
         requires { (a.0 ≤ 8) × ((b.0 ≤ 8) × (length ids.now ≤ 16)) }
         ensures { self.new ≡ with_log (append (list_bytes kind first a b (ids_of ids.now)) self.old.log) self.old }
     {
-        let more = 2 * ids.len();
-        let to = put_record(
-            &mut self.log,
-            self.to,
-            kind,
-            first,
-            a,
-            b,
-            Part::NOTHING,
-            more,
-        );
-        self.to = put_ids(&mut self.log, to, ids);
+        if let Some(at) = self.to {
+            self.to = put_list(&mut self.log, at, kind, first, a, b, ids);
+        }
     }
 
     // Whether the current block has its terminator.
@@ -203,7 +197,7 @@ impl FnCtx {
     pub fn is_whole(&self) -> bool
         ensures { result ≡ leb self.now.log.at 32768 }
     {
-        self.to <= MOST
+        self.to.is_some()
     }
 
     // How many blocks there are.

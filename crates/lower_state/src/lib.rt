@@ -19,5 +19,5 @@ pub const MOST_LOCALS: usize = 256;
 // The records of all blocks of a function, in the order of the walk.
 type Log = [u8; MOST];
 
-// The place in the log once a record did not fit.
+// The number of a span for a place of the log that is over the room.
 const LOST: usize = MOST + 1;

@@ -6,4 +6,7 @@ use Rattle.lower_state.proofs.ctx.FnCtx.begin.Goals as goal
 
 pub returns-clause-is : goal.returns-clause-is
 unfolding new_ctx
-returns-clause-is c = let s = c.self.inside.spans in rw (← c.self.view_is, started_starts s 0 0, started_stops s 0 0) refl
+returns-clause-is c =
+    let s = c.self.inside.spans in
+    let first = c.next_block-self-inside.ensures in
+    rw (← c.self.view_is, first.counted, first.number, started_starts s 0 0, started_stops s 0 0) refl

@@ -5,4 +5,6 @@ use Rattle.lower_state.proofs.ctx.FnCtx.new.Goals as goal
 
 pub returns : goal.returns
 unfolding new_ctx
-returns c = refl
+returns c =
+    let first = c.next_block-current.ensures in
+    rw (first.counted, first.number) refl
