@@ -12,7 +12,7 @@ use lib.ListN.{length, take, drop, length-append}
 use lib.Seq.{sets, sets-eq, take_at, length-take-le}
 use Rattle.std.specs.Prelude.{Option, None, Some}
 use Rattle.lower_walk.specs.Log.{Log, room, append, capped, log_of}
-use Rattle.lower_state.specs.Bytes.{place_in, Added}
+use Rattle.lower_state.specs.Bytes.{log_end, Added}
 
 -- what does not fit, and what does
 lost : (x : List ℕ) (c : Log) → room < c.at + length x → append x c ≡ record { value = c.value; at = suc room; bytes = [] }
@@ -44,7 +44,7 @@ stays_lost {l} {x} {m} {at} y a =
     record { is = λ w. sym (lost y (record { value = w; at = suc room; bytes = [] }) (omega arith)) ∙ ap (append y) (a.is w) ∙ append_append x y (log_of l w at); fits = tt }
 
 -- nothing is appended to a lost log
-pub lost_log : (l x : List ℕ) (to : Option ℕ) (w : ℕ) → ((n : ℕ) → to ≡ Some n → ⊥) → log_of l w (place_in to) ≡ append x (log_of l w (place_in to))
+pub lost_log : (l x : List ℕ) (to : Option ℕ) (w : ℕ) → ((n : ℕ) → to ≡ Some n → ⊥) → log_of l w (log_end to) ≡ append x (log_of l w (log_end to))
 lost_log l x None w h = sym (lost x (record { value = w; at = suc room; bytes = [] }) (omega arith))
 lost_log l x (Some n) w h = absurd (h n refl)
 

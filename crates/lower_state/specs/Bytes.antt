@@ -28,11 +28,11 @@ abbrev pub list_bytes : (kind first : ℕ) (a b : Part) (ids : List ℕ) → Lis
 list_bytes kind first a b ids = record_bytes kind first a b (part 0 0) (2 * length ids) ++ id_bytes ids
 
 -- the log's end as a number: more than the room once all is lost
-abbrev pub place_in : Option ℕ → ℕ
-place_in None = 32769
-place_in (Some n) = n
+abbrev pub log_end : Option ℕ → ℕ
+log_end None = 32769
+log_end (Some n) = n
 
 -- from l, with the log's end at `at`, to m, with its end at r, the bytes x were appended
 pub record Added (l : List ℕ) (at : ℕ) (x m : List ℕ) (r : Option ℕ) : Type 0 where
-  pub is : (value : ℕ) → log_of m value (place_in r) ≡ append x (log_of l value at)
+  pub is : (value : ℕ) → log_of m value (log_end r) ≡ append x (log_of l value at)
   pub fits : IfSome r (λ n. n ≤ room)

@@ -8,7 +8,7 @@ use Rattle.ir.specs.Types.{as_type}
 use Rattle.lower_walk.specs.Log.{log_of}
 use Rattle.lower_walk.specs.Stmts as walk
 use Rattle.lower_walk.specs.Stmts.{LogCtx, with_local}
-use Rattle.lower_state.specs.Bytes.{place_in}
+use Rattle.lower_state.specs.Bytes.{log_end}
 use Rattle.lower_state.specs.declared.ctx.Blocks.{Blocks}
 use Rattle.lower_state.specs.declared.ctx.Span.{Span}
 use Rattle.lower_state.specs.declared.ctx.FnCtx.TheInside.{Inside}
@@ -22,7 +22,7 @@ stops_of spans = map (λ (s : Span). s.stop) spans
 
 abbrev pub ctx_in : Inside → LogCtx
 ctx_in c =
-    record { fid = c.function.0; log = log_of c.log c.counters.value (place_in c.to); next_block = c.counters.block; current = c.current.0; ended = c.ended; locals = map as_type (take c.counters.local c.locals); starts = starts_of c.spans; stops = stops_of c.spans }
+    record { fid = c.function.0; log = log_of c.log c.counters.value (log_end c.to); next_block = c.counters.block; current = c.current.0; ended = c.ended; locals = map as_type (take c.counters.local c.locals); starts = starts_of c.spans; stops = stops_of c.spans }
 
 -- up to 256 blocks and locals, the current block is one of them, and the log's end is in its room
 pub record Sound (c : Inside) : Type 0 where

@@ -1,7 +1,7 @@
 // A function under way.
 ghost use Rattle.std.specs.Prelude.{◌≡◌, ◌≤◌, IfSome};
 ghost use Rattle.lower_walk.specs.Log.{capped};
-ghost use Rattle.lower_state.specs.Bytes.{place_in};
+ghost use Rattle.lower_state.specs.Bytes.{log_end};
 
 use crate::records::{put_list, put_record};
 use crate::{LOST, Log, LoweringError, MOST_BLOCKS, MOST_LOCALS, Part};
@@ -56,7 +56,7 @@ impl Model for FnCtx {
 // A place of the log as a number of a span: one stands for all that are over the room.
 fn place_of(to: Option<usize>) -> u32
     requires { IfSome to (λ n. n ≤ 32768) }
-    ensures { result ≡ capped (place_in to) }
+    ensures { result ≡ capped (log_end to) }
 {
     to.unwrap_or(LOST) as u32
 }
