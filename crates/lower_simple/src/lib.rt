@@ -1,36 +1,32 @@
 // Statements that have no statements in them.
 #![tactic(auto)]
 
-ghost use Rattle.std.specs.Prelude.{◌≡◌, ℕ, ◌≤◌, length};
+ghost use Rattle.std.specs.Prelude.{◌≡◌, ℕ, ◌≤◌};
 ghost use Rattle.definitions.specs.Ast.{Stmt, present};
 ghost use Rattle.contract_nodes.specs.Nodes.{expr_in, exprs_in, count_of};
-ghost use Rattle.lower_simple.specs.Stated.{stated, stmt_on};
+ghost use Rattle.lower_simple.specs.Stated.{stated, let_stated, stmt_on};
 
 use contract_lookup::symbols::storage_slot;
 use contract_nodes::{Expr, Exprs};
-use ir::Name;
+use ir::{IrType, LocalId, Name};
 use lower_emit::{Args, emit_assert, emit_event, emit_state_write, emit_write_local};
 use lower_exprs::{lower_expr, lower_expr_value};
 use lower_flow::{init_local, return_value};
 use lower_names::Scopes;
 use lower_state::{FnCtx, LoweringError};
 
-// Let: the expression, then its local; the name is held from then on.
+// Let: the expression, then its local. Their type and the local are what the name stands for from then on.
 #[tactic(auto, unfolding(lower_walk::specs::Stmts::walk_stmt))]
 pub fn lower_let(
     ctx: &mut FnCtx,
-    scopes: &mut Scopes,
-    name: Name,
+    scopes: &Scopes,
     e: Expr,
-) -> Result<(), LoweringError>
-    requires { length scopes.old.held ≤ length ctx.old.locals }
-    ensures is { (p : ℕ) → stated ctx.new scopes.new result ≡ stmt_on e.entry.contract scopes.old (Stmt.Let p name.0 (expr_in e.entry)) ctx.old }
-    ensures same_scope { scopes.new.scope ≡ scopes.old.scope }
+) -> Result<(LocalId, IrType), LoweringError>
+    ensures { (p n : ℕ) → let_stated ctx.new scopes.now n result ≡ stmt_on e.entry.contract scopes.now (Stmt.Let p n (expr_in e.entry)) ctx.old }
 {
     let (value, ty) = lower_expr_value(ctx, scopes, e)?;
     let local = init_local(ctx, ty, value)?;
-    scopes.declare(name, local, ty);
-    Ok(())
+    Ok((local, ty))
 }
 
 // Constrain.

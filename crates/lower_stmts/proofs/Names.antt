@@ -1,21 +1,19 @@
 -- The names that are held: those that a scope adds, and those that are held again behind it. Assumes nothing.
 use mathlib.Core.Path.{◌≡◌, ap, sym, ◌∙◌}
 use mathlib.Core.List.{[], ◌∷◌, ◌++◌, append_assoc}
-use Prim.Native.Nat.{ℕ, suc, ◌-◌}
+use Prim.Native.Nat.{ℕ, suc, ◌-◌, ◌<◌}
 use native.Mathlib.Omega.{arith}
 use lib.ListN.{length, drop, length-append}
 use lib.Seq.{drop-append_seam}
-use Rattle.std.specs.Prelude.{Result, Ok, Err, IfOk}
 use Rattle.definitions.specs.Result.{ok}
 use Rattle.definitions.specs.Ast.{Expr, Stmt, Contract}
 use Rattle.definitions.specs.Ir.{IrType}
-use Rattle.definitions.proofs.Results.{taking, ok_inj}
+use Rattle.definitions.proofs.Results.{taking}
 use Rattle.lower_walk.specs.Held.{HeldName, Held}
 use Rattle.lower_walk.specs.Exprs.{walk_expr_value}
 use Rattle.lower_walk.specs.Stmts.{LogCtx, with_log, init_local, walk_stmt}
+use Rattle.lower_walk.proofs.Grown.{local_made}
 use Rattle.lower_names.specs.HeldNames.{HeldNames, with_name, inside, outside}
-use Rattle.lower_simple.specs.Stated.{stated}
-use Rattle.lower_state.specs.declared.refusals.LoweringError.{LoweringError}
 use Rattle.lower_stmts.specs.Bodies.{Extends}
 
 pub extends_on : {a b d : HeldNames} → Extends a b → Extends b d → Extends a d
@@ -41,18 +39,17 @@ module _ {h₀ h₁ h₂ : HeldNames} {name local : ℕ} {t : IrType} (i : h₁ 
       let scope : h₃.scope - 1 ≡ h₀.scope = omega (arith, f.scope, ap (λ (h : HeldNames). h.scope) held_in_body) in
       q ∙ λ j. record { held = held j; scope = scope j }
 
--- LET
-module _ (K : Contract) (n p name : ℕ) (es : Held) (e : Expr) (c : LogCtx) where
-  let_adds : {d : LogCtx} {es' : Held} → ok (d, es') ≡ walk_stmt K n es (Stmt.Let p name e) c → (x : HeldName) × (es' ≡ x ∷ es)
-  unfolding walk_stmt init_local
-  let_adds q =
-      taking (walk_expr_value K es e c.log) _ (sym q) λ v r q.
-      taking (init_local v.1.1 v.1.0 (with_log v.0 c)) _ q λ x r q.
-      (record { scope = n; name = name; local = x.1; type = v.1.1 }, sym (ap (λ (y : LogCtx × Held). y.1) (ok_inj q)))
+-- LET: its name is added, and its local is not the 257th
+pub let_extends : {h h' : HeldNames} {name local : ℕ} {t : IrType} → h' ≡ with_name name local t h → Extends h h'
+let_extends {h} {name = name} {local} {t} q = record {
+  added = record { scope = h.scope; name = name; local = local; type = t } ∷ [];
+  held = ap (λ (h : HeldNames). h.held) q;
+  scope = ap (λ (h : HeldNames). h.scope) q;
+}
 
--- a Let lowered: its name is added
-pub let_extends : (K : Contract) (p name : ℕ) (e : Expr) (h h' : HeldNames) (c c' : LogCtx) (r : Result (Unit {0}) LoweringError) → stated c' h' r ≡ walk_stmt K h.scope h.held (Stmt.Let p name e) c → h'.scope ≡ h.scope → IfOk r (λ u. Extends h h')
-let_extends K p name e h h' c c' (Ok u) w s =
-    let x = let_adds K h.scope p name h.held e c w in
-    record { added = x.0 ∷ []; held = x.1; scope = s }
-let_extends K p name e h h' c c' (Err x) w s = tt
+pub let_free : (K : Contract) (n p name : ℕ) (es : Held) (e : Expr) (c : LogCtx) {d : LogCtx} {es' : Held} → ok (d, es') ≡ walk_stmt K n es (Stmt.Let p name e) c → length c.locals < 256
+unfolding walk_stmt
+let_free K n p name es e c q =
+    taking (walk_expr_value K es e c.log) _ (sym q) λ v r q.
+    taking (init_local v.1.1 v.1.0 (with_log v.0 c)) _ q λ x r q.
+    (local_made v.1.1 v.1.0 {c = with_log v.0 c} r).2

@@ -2,7 +2,7 @@
 use mathlib.Core.Path.{◌≡◌, refl, ap, ap₂, ◌∙◌}
 use mathlib.Core.Bool.{true, false}
 use Prim.Native.Nat.{ℕ, suc}
-use Rattle.std.specs.Prelude.{◌⊎◌, Result, Ok, Err, IfOk}
+use Rattle.std.specs.Prelude.{◌⊎◌, Result, Ok, Err}
 use Rattle.std.proofs.Common.{inl, inr}
 use Rattle.std.proofs.Math.Option.{none}
 use Rattle.definitions.specs.Result.{err, ok, ◌>>=◌}
@@ -45,10 +45,10 @@ module _ (K : Contract) (n : ℕ) (es : Held) where
 
 -- an If lowered, behind which the same names are held
 pub if_stated : (K : Contract) (n : ℕ) {s : Stmt} {p q : ℕ} {e : Expr} {a b : Stmts} {arms : OptStmts} (h h' : HeldNames) (c c' : LogCtx) (r : Result (Unit {0}) LoweringError) → s ≡ Stmt.If p e q a arms → Arms arms b
-    → done_after c' r ≡ if_on K n h.held e a b c → IfOk r (λ u. h' ≡ h) → stated c' h' r ≡ walk_stmt K n h.held s c
+    → done_after c' r ≡ if_on K n h.held e a b c → h' ≡ h → stated c' h' r ≡ walk_stmt K n h.held s c
 if_stated K n {p = p} {q} {e} {a} {b} {arms} h h' c c' r i o w same = rw i (named r same ∙ (ap (λ (x : Lowering LogCtx). x >>= λ d. ok (d, h.held)) w ∙ if_walk K n h.held p q e a b arms o c))
   where
-    named : (r : Result (Unit {0}) LoweringError) → IfOk r (λ u. h' ≡ h) → stated c' h' r ≡ (done_after c' r >>= λ d. ok (d, h.held))
+    named : (r : Result (Unit {0}) LoweringError) → h' ≡ h → stated c' h' r ≡ (done_after c' r >>= λ d. ok (d, h.held))
     named (Ok u) e = ap (λ (h : HeldNames). ok (c', h.held)) e
     named (Err x) e = refl
 

@@ -1,7 +1,7 @@
 // Statements: `lower_stmt` recurses into arms and bodies, and the depth left falls.
 #![tactic(auto)]
 
-ghost use Rattle.std.specs.Prelude.{◌≡◌, ℕ, ◌+◌, ◌≤◌, suc, length, IfOk};
+ghost use Rattle.std.specs.Prelude.{◌≡◌, ℕ, ◌+◌, ◌≤◌, suc, length};
 ghost use Rattle.contract_nodes.specs.Nodes.{contract_in, stmt_in, stmts_in};
 ghost use Rattle.lower_walk.specs.Stmts.{walk_stmts};
 ghost use Rattle.lower_state.specs.Answers.{done_after};
@@ -21,13 +21,13 @@ fn lower_body(ctx: &mut FnCtx, scopes: &mut Scopes, body: Stmts) -> Result<(), L
     requires room { length scopes.old.held ≤ length ctx.old.locals }
     requires depth { scopes.old.scope + 1 + body.depth ≤ 40 }
     ensures is { done_after ctx.new result ≡ walk_stmts (contract_in body.entry.contract) (suc scopes.old.scope) scopes.old.held (stmts_in body.entry) ctx.old }
-    ensures same_names { IfOk result (λ u. scopes.new ≡ scopes.old) }
+    ensures same_names { scopes.new ≡ scopes.old }
 {
     let mark = scopes.len();
     scopes.push_scope();
-    lower_stmts(ctx, scopes, body)?;
+    let done = lower_stmts(ctx, scopes, body);
     scopes.pop_scope(mark);
-    Ok(())
+    done
 }
 
 // If: the condition, then both arms. An arm that is absent is one without statements.
@@ -43,7 +43,7 @@ fn lower_if(
     requires depth { (scopes.old.scope + 1 + then.depth ≤ 40) × (scopes.old.scope + 1 + otherwise.depth ≤ 40) }
     requires one_sheet { OneSheet condition then × OneSheet condition otherwise }
     ensures is { done_after ctx.new result ≡ if_nodes condition.entry then.entry otherwise.entry scopes.old ctx.old }
-    ensures same_names { IfOk result (λ u. scopes.new ≡ scopes.old) }
+    ensures same_names { scopes.new ≡ scopes.old }
 {
     let blocks = enter_if(ctx, scopes, condition)?;
     let merge = blocks.third;
@@ -66,7 +66,7 @@ fn lower_while(
     requires depth { scopes.old.scope + 1 + body.depth ≤ 40 }
     requires one_sheet { OneSheet condition body }
     ensures is { (p q : ℕ) → stated ctx.new scopes.old result ≡ stmt_on condition.entry.contract scopes.old (while_of p q condition.entry body.entry) ctx.old }
-    ensures same_names { IfOk result (λ u. scopes.new ≡ scopes.old) }
+    ensures same_names { scopes.new ≡ scopes.old }
 {
     let blocks = enter_while(ctx, scopes, condition)?;
     lower_body(ctx, scopes, body)?;
@@ -88,15 +88,16 @@ fn lower_for(
     requires depth { scopes.old.scope + 1 + body.depth ≤ 40 }
     requires one_sheet { (end.contract.sheet.now ≡ start.contract.sheet.now) × OneSheet start body }
     ensures is { (p q : ℕ) → stated ctx.new scopes.old result ≡ stmt_on start.entry.contract scopes.old (for_of p q name.0 start.entry end.entry body.entry) ctx.old }
-    ensures same_names { IfOk result (λ u. scopes.new ≡ scopes.old) }
+    ensures same_names { scopes.new ≡ scopes.old }
 {
     let bounds = for_locals(ctx, scopes, start, end)?;
     let blocks = for_blocks(ctx, bounds)?;
     let before = scopes.len();
     scopes.push_scope();
     scopes.declare(name, bounds.var, IrType::U64);
-    lower_stmts(ctx, scopes, body)?;
+    let done = lower_stmts(ctx, scopes, body);
     scopes.pop_scope(before);
+    done?;
     leave_for(ctx, bounds.var, blocks);
     Ok(())
 }
@@ -107,10 +108,14 @@ fn lower_stmt(ctx: &mut FnCtx, scopes: &mut Scopes, t: Stmt) -> Result<(), Lower
     requires room { length scopes.old.held ≤ length ctx.old.locals }
     requires depth { scopes.old.scope + t.depth ≤ 40 }
     ensures is { stated ctx.new scopes.new result ≡ stmt_on t.entry.contract scopes.old (stmt_in t.entry) ctx.old }
-    ensures names { IfOk result (λ u. Extends scopes.old scopes.new) }
+    ensures names { Extends scopes.old scopes.new }
 {
     match t.node() {
-        StmtNode::Let(name, e) => lower_simple::lower_let(ctx, scopes, name, e),
+        StmtNode::Let(name, e) => {
+            let (local, ty) = lower_simple::lower_let(ctx, scopes, e)?;
+            scopes.declare(name, local, ty);
+            Ok(())
+        }
         StmtNode::Constrain(e) => lower_simple::lower_constrain(ctx, scopes, e),
         StmtNode::Assign(name, e) => lower_simple::lower_assign(ctx, scopes, name, e),
         StmtNode::StorageWrite(name, e) => lower_simple::lower_storage_write(ctx, scopes, name, e),
@@ -136,7 +141,7 @@ pub fn lower_stmts(ctx: &mut FnCtx, scopes: &mut Scopes, body: Stmts) -> Result<
     requires room { length scopes.old.held ≤ length ctx.old.locals }
     requires depth { scopes.old.scope + body.depth ≤ 40 }
     ensures is { done_after ctx.new result ≡ walk_stmts (contract_in body.entry.contract) scopes.old.scope scopes.old.held (stmts_in body.entry) ctx.old }
-    ensures names { IfOk result (λ u. Extends scopes.old scopes.new) }
+    ensures names { Extends scopes.old scopes.new }
 {
     for t in body {
         if ctx.is_ended() {

@@ -6,10 +6,11 @@ use Rattle.std.proofs.lemmas.Result.{err_from_is_err_and}
 use Rattle.definitions.specs.ContractSheet.{read_contract}
 use Rattle.contract_nodes.specs.Nodes.{StmtIs}
 use Rattle.contract_nodes.specs.declared.stmt.StmtNode.TheVariants as stmt
+use Rattle.lower_state.specs.Answers.{done_after}
 use Rattle.lower_walk.proofs.Grown.{if_entered, while_entered, for_blocks_made, for_locals_made, stmt_room}
 use Rattle.lower_names.specs.HeldNames.{HeldNames, inside}
 use Rattle.lower_stmts.proofs.Bodies.{of_sheet, with_names, stmts_end, arm_ended, still_block, still_room, if_refused, then_refused, else_refused, if_is, while_refused, while_body_refused, while_is, bounds_refused, for_refused, for_body_refused, for_is, local_free}
-use Rattle.lower_stmts.proofs.Names.{extends_on, held_in_body, same_behind, let_extends}
+use Rattle.lower_stmts.proofs.Names.{extends_on, held_in_body, same_behind, let_free, let_extends}
 use Rattle.lower_stmts.proofs.Statements.{stmt_of_sheet, if_of_sheet, same_walk, if_stated, mapping_refused, returned, none_left, skipped, first_refused, first_is}
 use Rattle.lower_stmts.proofs.+stmts.Goals as goal
 
@@ -109,39 +110,45 @@ pub lower_for-declare-requires : goal.lower_for-declare-requires
 lower_for-declare-requires t c =
     omega (arith, c.requires.room, local_free _ _ _ _ _ (sym c.in_ok-bounds.ensures), ap (λ (h : HeldNames). length h.held) c.push_scope.ensures)
 
-pub lower_for-lower_stmts-requires : goal.lower_for-lower_stmts-requires
-lower_for-lower_stmts-requires t c =
+pub lower_for-lower_stmts-done-requires : goal.lower_for-lower_stmts-done-requires
+lower_for-lower_stmts-done-requires t c =
     let G = for_locals_made _ _ _ _ (sym c.in_ok-bounds.ensures) in
     let H = for_blocks_made _ (sym c.in_ok-blocks.ensures) in
     let s = held_in_body c.push_scope.ensures c.declare.ensures in
     (omega (arith, c.decreases), (omega (arith, c.requires.room, still_room G.1 H.0, ap (λ (h : HeldNames). length h.held) s), omega (arith, c.requires.depth, ap (λ (h : HeldNames). h.scope) s)))
 
-pub lower_for-returns-in_err-lower_stmts-clause-is : goal.lower_for-returns-in_err-lower_stmts-clause-is
-lower_for-returns-in_err-lower_stmts-clause-is t c =
-    let f = c.from_residual-in_err-lower_stmts in
+pub lower_for-returns-in_err-done-clause-is : goal.lower_for-returns-in_err-done-clause-is
+lower_for-returns-in_err-done-clause-is t c =
+    let f = c.from_residual-in_err-done in
     let r = err_from_is_err_and f.result f.ensures.1 in
     let s = held_in_body c.push_scope.ensures c.declare.ensures in
-    let u = of_sheet _ _ _ _ (ap read_contract c.requires.one_sheet.1) (with_names _ _ _ s c.in_err-lower_stmts.ensures.is) in
+    let u = of_sheet _ _ _ _ (ap read_contract c.requires.one_sheet.1) (with_names _ _ _ s (sym (ap (done_after c.lower_stmts-done.new.ctx) c.in_err-done.was) ∙ c.lower_stmts-done.ensures.is)) in
     λ p q. rw (r.1, r.2) (for_body_refused _ _ _ p q _ _ _ _ _ c.in_ok-bounds.ensures c.in_ok-blocks.ensures u)
+
+pub lower_for-returns-in_err-done-clause-same_names : goal.lower_for-returns-in_err-done-clause-same_names
+lower_for-returns-in_err-done-clause-same_names t c = same_behind c.push_scope.ensures c.declare.ensures c.lower_stmts-done.ensures.names c.len-before.ensures c.pop_scope.ensures
 
 pub lower_for-leave_for-requires : goal.lower_for-leave_for-requires
 lower_for-leave_for-requires t c =
     let G = for_blocks_made _ (sym c.in_ok-blocks.ensures) in
-    let H = stmts_end _ _ _ _ c.in_ok-lower_stmts.ensures.is in
+    let H = stmts_end _ _ _ _ (sym (ap (done_after c.lower_stmts-done.new.ctx) c.in_ok-done.was) ∙ c.lower_stmts-done.ensures.is) in
     still_block G.3 H
 
 pub lower_for-returns-clause-is : goal.lower_for-returns-clause-is
 lower_for-returns-clause-is t c =
     let s = held_in_body c.push_scope.ensures c.declare.ensures in
-    let u = of_sheet _ _ _ _ (ap read_contract c.requires.one_sheet.1) (with_names _ _ _ s c.in_ok-lower_stmts.ensures.is) in
+    let u = of_sheet _ _ _ _ (ap read_contract c.requires.one_sheet.1) (with_names _ _ _ s (sym (ap (done_after c.lower_stmts-done.new.ctx) c.in_ok-done.was) ∙ c.lower_stmts-done.ensures.is)) in
     λ p q. for_is _ _ _ p q _ _ _ _ _ c.in_ok-bounds.ensures c.in_ok-blocks.ensures u c.leave_for.ensures
 
 pub lower_for-returns-clause-same_names : goal.lower_for-returns-clause-same_names
-lower_for-returns-clause-same_names t c = same_behind c.push_scope.ensures c.declare.ensures c.in_ok-lower_stmts.ensures.names c.len-before.ensures c.pop_scope.ensures
+lower_for-returns-clause-same_names t c = same_behind c.push_scope.ensures c.declare.ensures c.lower_stmts-done.ensures.names c.len-before.ensures c.pop_scope.ensures
 
 -- A STATEMENT
-pub lower_stmt-returns-in-Let-clause-names : goal.lower_stmt-returns-in-Let-clause-names
-lower_stmt-returns-in-Let-clause-names t c = let_extends _ 0 _ _ _ _ _ _ c.lower_let.result (c.lower_let.ensures.is 0) c.lower_let.ensures.same_scope
+pub lower_stmt-declare-requires : goal.lower_stmt-declare-requires
+lower_stmt-declare-requires t c = omega (arith, c.requires.room, let_free _ _ 0 0 _ _ _ (c.in_ok-local-in-Let.ensures 0 0))
+
+pub lower_stmt-returns-in_ok-local-in-Let-clause-names : goal.lower_stmt-returns-in_ok-local-in-Let-clause-names
+lower_stmt-returns-in_ok-local-in-Let-clause-names t c = let_extends c.declare.ensures
 
 pub lower_stmt-returns-in-MappingWrite-clause-is : goal.lower_stmt-returns-in-MappingWrite-clause-is
 lower_stmt-returns-in-MappingWrite-clause-is t c = mapping_refused _ _ _ _ c.in-MappingWrite.ensures.is
@@ -180,6 +187,9 @@ lower_stmts-returns-in_err-lower_stmt-clause-is t c =
     let f = c.in-Some.ensures.steps in
     let w = stmt_of_sheet _ _ _ _ (ap read_contract f.sheet) c.in_err-lower_stmt.ensures.is in
     rw (p.1, p.2) (first_refused _ _ _ _ f.is (sym c.is_ended.ensures ∙ c.if-is_ended.false) w ∙ c.loop-t.invariant.is)
+
+pub lower_stmts-returns-in_err-lower_stmt-clause-names : goal.lower_stmts-returns-in_err-lower_stmt-clause-names
+lower_stmts-returns-in_err-lower_stmt-clause-names t c = extends_on c.loop-t.invariant.names c.in_err-lower_stmt.ensures.names
 
 pub lower_stmts-returns-clause-is : goal.lower_stmts-returns-clause-is
 lower_stmts-returns-clause-is t c = none_left _ _ _ _ c.in-None.ensures.steps.0 ∙ c.loop-t.invariant.is
