@@ -23,7 +23,7 @@ use Rattle.ir.specs.Kinds.{rule_in}
 use Rattle.ir.specs.Types.{as_type}
 use Rattle.ir.specs.declared.IrType.{IrType as CodeType}
 use Rattle.ir.specs.declared.IrType.TheVariants as code
-use Rattle.program_nodes.specs.Nodes.{form_of, instr_in, gives}
+use Rattle.program_nodes.specs.Nodes.{form_of, instr_in, result_is}
 use Rattle.program_nodes.proofs.InstrRows.{own_typed, type_fits}
 use Rattle.program_nodes.specs.Positions.{kind_here, type_here, has_type, type_offset, own_rule, by_rule, size_here, term_size, InstrTo, TermPlace, FunctionHere}
 use Rattle.program_nodes.specs.declared.program.Program.{Program}
@@ -79,11 +79,11 @@ module _ (i : Instr) {n : ℕ} (h : n ≡ kind_here i.sheet.now i.at) where
     type_by_rule z = rw (e, z, h) (sym ((instr_to i).place.gives i.stop))
 
 -- whether the result is the value v: x stands there, and was read as n
-pub gives_same : {n v x : ℕ} → n ≡ x → n ≡ v → not (eqb v 65535) ≡ gives v (opt_from x)
+pub gives_same : {n v x : ℕ} → n ≡ x → n ≡ v → not (eqb v 65535) ≡ result_is v (opt_from x)
 unfolding opt_from
 gives_same {n} {v} e z = rw (← e, z) (by_test (eqb v 65535) (λ q. rw q refl) (λ q. rw (q, eq-eqb v v refl) refl))
 
-pub gives_other : {n v x : ℕ} → n ≡ x → (n ≡ v → ⊥) → eqb n v ≡ gives v (opt_from x)
+pub gives_other : {n v x : ℕ} → n ≡ x → (n ≡ v → ⊥) → eqb n v ≡ result_is v (opt_from x)
 unfolding opt_from
 gives_other {n} {v} e z = rw (← e, ne_eqb n v z) (by_test (eqb n 65535) (λ q. rw q refl) (λ q. rw (q, ne_eqb n v z) refl))
 

@@ -85,9 +85,9 @@ abbrev pub result_in : Instr → maths.Option ℕ
 result_in i = opt_from (le 2 i.sheet.now (i.at + fields_at))
 
 -- whether a result is the value v
-abbrev pub gives : ℕ → maths.Option ℕ → Bool
-gives v maths.none = false
-gives v (maths.some x) = eqb x v
+abbrev pub result_is : ℕ → maths.Option ℕ → Bool
+result_is v maths.none = false
+result_is v (maths.some x) = eqb x v
 
 abbrev pub node_in : Instr → ir.InstrNode
 node_in i = record { result = result_in i; instr = instr_in i }

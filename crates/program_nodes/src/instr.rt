@@ -64,7 +64,7 @@ impl<'a> Instr<'a> {
     ghost use Rattle.format.specs.Kinds.{instr_number};
     ghost use Rattle.ir.specs.Answers.{option_of};
     ghost use Rattle.program_nodes.specs.Positions.{ids_here, kind_here, has_type, type_offset};
-    ghost use Rattle.program_nodes.specs.Nodes.{instr_in, instr_is, is_access, gives, result_in, value_of, ids_in};
+    ghost use Rattle.program_nodes.specs.Nodes.{instr_in, instr_is, is_access, result_is, result_in, value_of, ids_in};
 
     // The id that stands at an offset, the type, and the number of so many bytes.
     fn id(self, offset: usize) -> u16
@@ -97,7 +97,7 @@ impl<'a> Instr<'a> {
 
     // Whether it defines the value: compared as numbers, since the search for a definition asks it of each record.
     pub fn gives(self, v: ValueId) -> bool
-        ensures { result ≡ gives v.0 (result_in self.entry) }
+        ensures { result ≡ result_is v.0 (result_in self.entry) }
     {
         let value = self.id(program::RESULT);
         value == v.0 && v.0 != ABSENT

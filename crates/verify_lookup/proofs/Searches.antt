@@ -16,7 +16,7 @@ use Rattle.definitions.specs.Verify.{block_ids, function_ids}
 use Rattle.definitions.proofs.Results.{by_test}
 use Rattle.ir.specs.Answers.{option_of}
 use Rattle.program_nodes.specs.Definitions.{Definition, instr_definition, result_definition, first_definition}
-use Rattle.program_nodes.specs.Nodes.{gives, FirstInstr, FirstTerm, TakesRecord}
+use Rattle.program_nodes.specs.Nodes.{result_is, FirstInstr, FirstTerm, TakesRecord}
 use Rattle.program_nodes.specs.declared.block.Records.{Records}
 use Rattle.program_nodes.specs.declared.block.Record.{Record}
 use Rattle.program_nodes.specs.declared.block.Record.TheVariants as record'
@@ -51,11 +51,11 @@ instr_miss q v (some x) i es e z = rw (e, ne_eqb x v (λ w. z (ap some (sym w)))
 false_true : {b : Bool} → b ≡ false → b ≡ true → ⊥
 false_true e f = let z : ◌≡◌ {A = Bool} false true = sym e ∙ f in let y : ◌≡◌ {A = ℕ} 0 1 = cc in omega arith
 
-pub is_value : (v : ℕ) (r : maths.Option ℕ) {b : Bool} → b ≡ gives v r → b ≡ true → some v ≡ r
+pub is_value : (v : ℕ) (r : maths.Option ℕ) {b : Bool} → b ≡ result_is v r → b ≡ true → some v ≡ r
 is_value v none e z = absurd (false_true e z)
 is_value v (some x) e z = ap some (sym (eqb-true x v (sym e ∙ z)))
 
-pub no_value : (v : ℕ) (r : maths.Option ℕ) {b : Bool} → b ≡ gives v r → b ≡ false → some v ≡ r → ⊥
+pub no_value : (v : ℕ) (r : maths.Option ℕ) {b : Bool} → b ≡ result_is v r → b ≡ false → some v ≡ r → ⊥
 no_value v r e z w = false_true z (e ∙ rw (← w) (eq-eqb v v refl))
 
 -- a record that a match told
