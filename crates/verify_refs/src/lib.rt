@@ -22,6 +22,8 @@ fn same_type(a: IrType, b: IrType) -> bool
 }
 
 // The type of a value, which is defined (`check_value_ref`).
+// Inlined: verifying asks it for each operand.
+#[inline(always)]
 pub fn check_value(f: Function<'_>, v: ValueId) -> Result<IrType, VerifyError>
     ensures { Finds f.entry v.0 result }
 {
