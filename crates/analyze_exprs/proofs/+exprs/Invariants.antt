@@ -22,7 +22,8 @@ decreases-analyze_literal l = 2 * l.inits.depth + 1
 abbrev pub decreases-analyze_call : goal.decreases-analyze_call
 decreases-analyze_call l = 2 * l.args.depth + 1
 
--- the fields that are left give what the whole literal gives
+-- the fields that are left give what the whole literal gives;
+-- they are of its sheet, and as deep as all of them
 abbrev pub invariant-analyze_literal-loop-init : goal.invariant-analyze_literal-loop-init
 invariant-analyze_literal-loop-init l = record {
   sheet : OfSheet l.a l.init-iterator.contract;

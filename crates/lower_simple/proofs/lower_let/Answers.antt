@@ -8,5 +8,5 @@ use Rattle.lower_simple.proofs.lower_let.Goals as goal
 
 pub declare-requires : goal.declare-requires
 declare-requires c =
-    let made = local_made _ _ (sym c.in_ok-local.ensures) in
+    let made = local_made _ _ (sym c.in_ok-local.ensures.is) in
     omega (arith, c.requires, made.2, ap (λ (d : LogCtx). length d.locals) c.lower_expr_value.ensures.log_alone)

@@ -103,7 +103,7 @@ pub lower_for-returns-in_err-blocks-clause-is : goal.lower_for-returns-in_err-bl
 lower_for-returns-in_err-blocks-clause-is t c =
     let f = c.from_residual-in_err-blocks in
     let r = err_from_is_err_and f.result f.ensures.1 in
-    λ p q. rw (r.1, r.2) (for_refused _ _ _ p q _ _ _ _ _ c.in_ok-bounds.ensures c.in_err-blocks.ensures)
+    λ p q. rw (r.1, r.2) (for_refused _ _ _ p q _ _ _ _ _ c.in_ok-bounds.ensures c.in_err-blocks.ensures.is)
 
 pub lower_for-declare-requires : goal.lower_for-declare-requires
 lower_for-declare-requires t c =
@@ -112,7 +112,7 @@ lower_for-declare-requires t c =
 pub lower_for-lower_stmts-requires : goal.lower_for-lower_stmts-requires
 lower_for-lower_stmts-requires t c =
     let G = for_locals_made _ _ _ _ (sym c.in_ok-bounds.ensures) in
-    let H = for_blocks_made _ (sym c.in_ok-blocks.ensures) in
+    let H = for_blocks_made _ (sym c.in_ok-blocks.ensures.is) in
     let s = held_in_body c.push_scope.ensures c.declare.ensures in
     (omega (arith, c.decreases), (omega (arith, c.requires.room, still_room G.1 H.0, ap (λ (h : HeldNames). length h.held) s), omega (arith, c.requires.depth, ap (λ (h : HeldNames). h.scope) s)))
 
@@ -122,11 +122,11 @@ lower_for-returns-in_err-lower_stmts-clause-is t c =
     let r = err_from_is_err_and f.result f.ensures.1 in
     let s = held_in_body c.push_scope.ensures c.declare.ensures in
     let u = of_sheet _ _ _ _ (ap read_contract c.requires.one_sheet.1) (with_names _ _ _ s c.in_err-lower_stmts.ensures.is) in
-    λ p q. rw (r.1, r.2) (for_body_refused _ _ _ p q _ _ _ _ _ c.in_ok-bounds.ensures c.in_ok-blocks.ensures u)
+    λ p q. rw (r.1, r.2) (for_body_refused _ _ _ p q _ _ _ _ _ c.in_ok-bounds.ensures c.in_ok-blocks.ensures.is u)
 
 pub lower_for-leave_for-requires : goal.lower_for-leave_for-requires
 lower_for-leave_for-requires t c =
-    let G = for_blocks_made _ (sym c.in_ok-blocks.ensures) in
+    let G = for_blocks_made _ (sym c.in_ok-blocks.ensures.is) in
     let H = stmts_end _ _ _ _ c.in_ok-lower_stmts.ensures.is in
     still_block G.3 H
 
@@ -134,7 +134,7 @@ pub lower_for-returns-clause-is : goal.lower_for-returns-clause-is
 lower_for-returns-clause-is t c =
     let s = held_in_body c.push_scope.ensures c.declare.ensures in
     let u = of_sheet _ _ _ _ (ap read_contract c.requires.one_sheet.1) (with_names _ _ _ s c.in_ok-lower_stmts.ensures.is) in
-    λ p q. for_is _ _ _ p q _ _ _ _ _ c.in_ok-bounds.ensures c.in_ok-blocks.ensures u c.leave_for.ensures
+    λ p q. for_is _ _ _ p q _ _ _ _ _ c.in_ok-bounds.ensures c.in_ok-blocks.ensures.is u c.leave_for.ensures
 
 pub lower_for-returns-clause-same_names : goal.lower_for-returns-clause-same_names
 lower_for-returns-clause-same_names t c = same_behind c.push_scope.ensures c.declare.ensures c.in_ok-lower_stmts.ensures.names c.len-before.ensures c.pop_scope.ensures
