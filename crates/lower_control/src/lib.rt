@@ -1,7 +1,7 @@
 // The blocks of If, While and For.
 #![tactic(auto)]
 
-ghost use Rattle.std.specs.Prelude.{◌≡◌, ◌<◌};
+ghost use Rattle.std.specs.Prelude.{◌≡◌, ◌<◌, IfErr};
 ghost use Rattle.contract_nodes.specs.Nodes.{contract_in, expr_in};
 ghost use Rattle.lower_walk.specs.Stmts.{enter_if, enter_while, two_locals, for_locals, for_header, for_blocks, for_next, for_step, switch_to};
 ghost use Rattle.lower_state.specs.Answers.{with_state};
@@ -88,7 +88,8 @@ fn for_header(ctx: &mut FnCtx, bounds: Bounds, body: BlockId, exit: BlockId)
 
 // For: the blocks and the header; the body is open.
 pub fn for_blocks(ctx: &mut FnCtx, bounds: Bounds) -> Result<Blocks, LoweringError>
-    ensures { with_state blocks_of ctx.new result ≡ for_blocks (bounds_of bounds) ctx.old }
+    ensures is { with_state blocks_of ctx.new result ≡ for_blocks (bounds_of bounds) ctx.old }
+    ensures refused { IfErr result (λ e. ctx.new ≡ ctx.old) }
 {
     let blocks = ctx.three_blocks()?;
     jump(ctx, blocks.first);

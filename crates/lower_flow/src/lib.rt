@@ -1,7 +1,7 @@
 // Terminators of blocks, and locals that are written at once.
 #![tactic(auto)]
 
-ghost use Rattle.std.specs.Prelude.{◌≡◌, ◌<◌};
+ghost use Rattle.std.specs.Prelude.{◌≡◌, ◌<◌, IfErr};
 ghost use Rattle.std.proofs.Math.Option.{none, some};
 ghost use Rattle.definitions.specs.Ir.{Terminator};
 ghost use Rattle.ir.specs.Types.{as_type};
@@ -71,7 +71,8 @@ pub fn next_arm(ctx: &mut FnCtx, target: BlockId, next: BlockId)
 
 // A new local to which a value is written at once.
 pub fn init_local(ctx: &mut FnCtx, ty: IrType, value: ValueId) -> Result<LocalId, LoweringError>
-    ensures { with_state (λ l. l.0) ctx.new result ≡ init_local (as_type ty) value.0 ctx.old }
+    ensures is { with_state (λ l. l.0) ctx.new result ≡ init_local (as_type ty) value.0 ctx.old }
+    ensures refused { IfErr result (λ e. ctx.new ≡ ctx.old) }
 {
     let local = ctx.new_local(ty)?;
     emit_write_local(ctx, local, value);

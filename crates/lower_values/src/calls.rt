@@ -1,5 +1,5 @@
 // What is called, and the call of it.
-ghost use Rattle.std.specs.Prelude.{◌≡◌};
+ghost use Rattle.std.specs.Prelude.{◌≡◌, IfErr};
 ghost use Rattle.ir.specs.Answers.{result_of, option_of};
 ghost use Rattle.ir.specs.Types.{as_type};
 ghost use Rattle.contract_nodes.specs.Nodes.{contract_in};
@@ -74,6 +74,7 @@ pub fn finish_call(
 ) -> Result<Option<Value>, LoweringError>
     ensures is { with_state (option_of value_in) ctx.new.log result ≡ finish_call (called_of callee) args.now ctx.old.log }
     ensures log_alone { LogAlone ctx.old ctx.new }
+    ensures refused { IfErr result (λ e. ctx.new ≡ ctx.old) }
 {
     match callee {
         Callee::Context(kind) => Ok(Some((emit_context_read(ctx, kind), IrType::U64))),

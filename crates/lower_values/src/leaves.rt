@@ -1,5 +1,5 @@
 // Expressions without expressions in them, and what is done with values.
-ghost use Rattle.std.specs.Prelude.{◌≡◌};
+ghost use Rattle.std.specs.Prelude.{◌≡◌, IfErr};
 ghost use Rattle.definitions.specs.ContractSheet.{op_of};
 ghost use Rattle.definitions.specs.Ir as defs;
 ghost use Rattle.definitions.specs.Ir.{Instruction, binary_type};
@@ -33,6 +33,7 @@ pub fn lower_int(ctx: &mut FnCtx, number: usize) -> Value
 pub fn lower_ident(ctx: &mut FnCtx, scopes: &Scopes, name: Name) -> Result<Value, LoweringError>
     ensures is { with_state some_value ctx.new.log result ≡ walk_ident scopes.now.held name.0 ctx.old.log }
     ensures log_alone { LogAlone ctx.old ctx.new }
+    ensures refused { IfErr result (λ e. ctx.new ≡ ctx.old) }
 {
     let (local, ty) = scopes
         .lookup(name)
@@ -48,6 +49,7 @@ pub fn lower_storage_read(
 ) -> Result<Value, LoweringError>
     ensures is { with_state some_value ctx.new.log result ≡ walk_storage_read (contract_in contract.entry) name.0 ctx.old.log }
     ensures log_alone { LogAlone ctx.old ctx.new }
+    ensures refused { IfErr result (λ e. ctx.new ≡ ctx.old) }
 {
     let slot = storage_slot(contract, name).ok_or(LoweringError::UndefinedVariable(name))?;
     Ok((emit_state_read(ctx, slot), IrType::U64))
@@ -63,6 +65,7 @@ pub fn lower_field(
 ) -> Result<Value, LoweringError>
     ensures is { with_state some_value ctx.new.log result ≡ walk_field (contract_in contract.entry) field.0 base.0 (as_type ty) ctx.old.log }
     ensures log_alone { LogAlone ctx.old ctx.new }
+    ensures refused { IfErr result (λ e. ctx.new ≡ ctx.old) }
 {
     let offset = field_offset(contract, ty, field)?;
     Ok((emit_load(ctx, base, offset), IrType::U64))

@@ -5,8 +5,8 @@ use Rattle.lower_control.proofs.Steps.{among, still_there}
 use Rattle.lower_control.proofs.Fors.{for_full, body_there, for_entered}
 use Rattle.lower_control.proofs.for_blocks.Goals as goal
 
-pub returns-in_err-blocks : goal.returns-in_err-blocks
-returns-in_err-blocks c =
+pub returns-in_err-blocks-clause-is : goal.returns-in_err-blocks-clause-is
+returns-in_err-blocks-clause-is c =
     let p = err_from_is_err_and c.from_residual.result c.from_residual.ensures.1 in
     rw (p.1, p.2) (for_full _ c.args.ctx.now c.in_err-blocks.ensures.is)
 
@@ -16,5 +16,5 @@ switch_to-requires c = still_there (among c.in_ok-blocks.ensures.is).1 (same_blo
 pub switch_to-requires-2 : goal.switch_to-requires-2
 switch_to-requires-2 c = body_there _ _ c.in_ok-blocks.ensures.is c.jump.ensures c.switch_to.ensures c.for_header.ensures
 
-pub returns : goal.returns
-returns c = for_entered _ _ c.in_ok-blocks.ensures.is c.jump.ensures c.switch_to.ensures c.for_header.ensures c.switch_to-2.ensures
+pub returns-clause-is : goal.returns-clause-is
+returns-clause-is c = for_entered _ _ c.in_ok-blocks.ensures.is c.jump.ensures c.switch_to.ensures c.for_header.ensures c.switch_to-2.ensures

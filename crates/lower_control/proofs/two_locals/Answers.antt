@@ -6,12 +6,12 @@ use Rattle.lower_control.proofs.two_locals.Goals as goal
 pub returns-in_err-var : goal.returns-in_err-var
 returns-in_err-var c =
     let p = err_from_is_err_and c.from_residual.result c.from_residual.ensures.1 in
-    rw (p.1, p.2) (first_full _ _ c.args.ctx.now c.in_err-var.ensures)
+    rw (p.1, p.2) (first_full _ _ c.args.ctx.now c.in_err-var.ensures.is)
 
 pub returns-in_err-end : goal.returns-in_err-end
 returns-in_err-end c =
     let p = err_from_is_err_and c.from_residual-in_err-end.result c.from_residual-in_err-end.ensures.1 in
-    rw (p.1, p.2) (second_full _ _ c.args.ctx.now c.in_ok-var.ensures c.in_err-end.ensures)
+    rw (p.1, p.2) (second_full _ _ c.args.ctx.now c.in_ok-var.ensures.is c.in_err-end.ensures.is)
 
 pub returns : goal.returns
-returns c = both_made _ _ c.args.ctx.now c.in_ok-var.ensures c.in_ok-end.ensures
+returns c = both_made _ _ c.args.ctx.now c.in_ok-var.ensures.is c.in_ok-end.ensures.is

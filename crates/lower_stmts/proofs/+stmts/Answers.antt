@@ -104,7 +104,7 @@ pub lower_for-returns-in_err-blocks-clause-is : goal.lower_for-returns-in_err-bl
 lower_for-returns-in_err-blocks-clause-is t c =
     let f = c.from_residual-in_err-blocks in
     let r = err_from_is_err_and f.result f.ensures.1 in
-    λ p q. rw (r.1, r.2) (for_refused _ _ _ p q _ _ _ _ _ c.in_ok-bounds.ensures c.in_err-blocks.ensures)
+    λ p q. rw (r.1, r.2) (for_refused _ _ _ p q _ _ _ _ _ c.in_ok-bounds.ensures c.in_err-blocks.ensures.is)
 
 pub lower_for-declare-requires : goal.lower_for-declare-requires
 lower_for-declare-requires t c =
@@ -113,7 +113,7 @@ lower_for-declare-requires t c =
 pub lower_for-lower_stmts-done-requires : goal.lower_for-lower_stmts-done-requires
 lower_for-lower_stmts-done-requires t c =
     let G = for_locals_made _ _ _ _ (sym c.in_ok-bounds.ensures) in
-    let H = for_blocks_made _ (sym c.in_ok-blocks.ensures) in
+    let H = for_blocks_made _ (sym c.in_ok-blocks.ensures.is) in
     let s = held_in_body c.push_scope.ensures c.declare.ensures in
     (omega (arith, c.decreases), (omega (arith, c.requires.room, still_room G.1 H.0, ap (λ (h : HeldNames). length h.held) s), omega (arith, c.requires.depth, ap (λ (h : HeldNames). h.scope) s)))
 
@@ -123,14 +123,14 @@ lower_for-returns-in_err-done-clause-is t c =
     let r = err_from_is_err_and f.result f.ensures.1 in
     let s = held_in_body c.push_scope.ensures c.declare.ensures in
     let u = of_sheet _ _ _ _ (ap read_contract c.requires.one_sheet.1) (with_names _ _ _ s (sym (ap (done_after c.lower_stmts-done.new.ctx) c.in_err-done.was) ∙ c.lower_stmts-done.ensures.is)) in
-    λ p q. rw (r.1, r.2) (for_body_refused _ _ _ p q _ _ _ _ _ c.in_ok-bounds.ensures c.in_ok-blocks.ensures u)
+    λ p q. rw (r.1, r.2) (for_body_refused _ _ _ p q _ _ _ _ _ c.in_ok-bounds.ensures c.in_ok-blocks.ensures.is u)
 
 pub lower_for-returns-in_err-done-clause-same_names : goal.lower_for-returns-in_err-done-clause-same_names
 lower_for-returns-in_err-done-clause-same_names t c = same_behind c.push_scope.ensures c.declare.ensures c.lower_stmts-done.ensures.names c.len-before.ensures c.pop_scope.ensures
 
 pub lower_for-leave_for-requires : goal.lower_for-leave_for-requires
 lower_for-leave_for-requires t c =
-    let G = for_blocks_made _ (sym c.in_ok-blocks.ensures) in
+    let G = for_blocks_made _ (sym c.in_ok-blocks.ensures.is) in
     let H = stmts_end _ _ _ _ (sym (ap (done_after c.lower_stmts-done.new.ctx) c.in_ok-done.was) ∙ c.lower_stmts-done.ensures.is) in
     still_block G.3 H
 
@@ -138,7 +138,7 @@ pub lower_for-returns-clause-is : goal.lower_for-returns-clause-is
 lower_for-returns-clause-is t c =
     let s = held_in_body c.push_scope.ensures c.declare.ensures in
     let u = of_sheet _ _ _ _ (ap read_contract c.requires.one_sheet.1) (with_names _ _ _ s (sym (ap (done_after c.lower_stmts-done.new.ctx) c.in_ok-done.was) ∙ c.lower_stmts-done.ensures.is)) in
-    λ p q. for_is _ _ _ p q _ _ _ _ _ c.in_ok-bounds.ensures c.in_ok-blocks.ensures u c.leave_for.ensures
+    λ p q. for_is _ _ _ p q _ _ _ _ _ c.in_ok-bounds.ensures c.in_ok-blocks.ensures.is u c.leave_for.ensures
 
 pub lower_for-returns-clause-same_names : goal.lower_for-returns-clause-same_names
 lower_for-returns-clause-same_names t c = same_behind c.push_scope.ensures c.declare.ensures c.lower_stmts-done.ensures.names c.len-before.ensures c.pop_scope.ensures
