@@ -3,7 +3,7 @@
 # tests/cites.sh --print prints crates.txt as it should be (into another file: it reads crates.txt meanwhile).
 set -u
 cd "$(dirname "$0")/.." && . tests/part.sh || exit 2
-kit=(io itoa libc os bytes check)
+kit=(io itoa thiserror arrayvec libc os bytes check)
 
 # cited CRATE: the names that it cites, a line each: in code NAME::.., unless NAME is a module of its own or of std; in code and in antt Rattle.NAME.. Comments cite nothing.
 cited() {

@@ -19,16 +19,18 @@ use contract_lookup::types::{from_str, return_type};
 use contract_nodes::{Contract, Function};
 use ir::IrType;
 use sheet::ContractError;
-use std::error::Error;
-use std::fmt;
+use thiserror::Error;
 
 // Why a sheet is refused.
-#[derive(Clone, Copy, Debug, PartialEq, Eq)]
+#[derive(Clone, Copy, Debug, PartialEq, Eq, Error)]
 pub enum Refusal {
+    #[error(transparent)]
     Contract(ContractError),
+    #[error(transparent)]
     Sema(SemaError),
 }
 
+// The two are written, and not derived by `#[from]`: a derived `From` has no `from_gives`, so that nothing were known of what `?` passes on.
 impl From<ContractError> for Refusal {
     ghost use Rattle.analyze.specs.declared.Refusal.TheVariants as refusal;
 
@@ -49,30 +51,19 @@ impl From<SemaError> for Refusal {
     }
 }
 
-impl fmt::Display for Refusal {
-    fn fmt<W: fmt::Write>(&self, f: &mut fmt::Formatter<W>) -> fmt::Result {
-        match self {
-            Refusal::Contract(e) => e.fmt(f),
-            Refusal::Sema(e) => e.fmt(f),
-        }
-    }
-}
-
-impl Error for Refusal {}
-
 // The parameters of a function are known, in order.
 fn insert_params(env: &mut Env, f: Function)
     requires { (env.old.names ≡ []) × (16 ≤ env.old.room) }
     ensures is { env.new ≡ record { names = param_env (function_in f.entry).params []; room = env.old.room } }
     ensures few { length env.new.names ≤ 16 }
 {
-    for i in 0..f.param_count() {
-        let param = f.param(i);
+    for param in f.params() {
         env.insert(param.name, Ty::Known(from_str(param.ty)));
     }
 }
 
 // A function of the contract. No name is known before it, and none behind it.
+// `OfSheet`: as in analyze_exprs.
 fn analyze_function(a: Analyzer, env: &mut Env, f: Function) -> Result<(), SemaError>
     requires of_sheet { OfSheet a f.contract }
     requires empty { Empty (sheet_of a) env.old }
@@ -103,8 +94,7 @@ fn analyze_functions(contract: Contract, env: &mut Env) -> Result<(), SemaError>
         functions: &functions,
         ret: IrType::Void,
     };
-    for i in 0..functions.len() {
-        let f = functions.get(i).unwrap();
+    for (_, f) in functions.iter() {
         analyze_function(a, env, f)?;
     }
     Ok(())

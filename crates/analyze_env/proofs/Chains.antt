@@ -1,13 +1,15 @@
 -- The newest of each chain, by heads and links: a lookup along the links finds what a walk over all entries finds; a store keeps them right, and so does undoing
 -- it. Assumes nothing.
-use mathlib.Core.Path.{◌≡◌, refl, ap, sym, ◌∙◌}
-use mathlib.Core.List.{List}
+use mathlib.Core.Path.{◌≡◌, refl, ap, sym, ◌∙◌, subst}
+use mathlib.Core.List.{List, [], ◌∷◌, ◌++◌, append-nil}
 use mathlib.Core.Option.{none, some}
 use Prim.Native.Nat.{ℕ, zero, suc, ◌+◌, ◌-◌, ◌≤◌, ◌<◌}
 use native.Mathlib.Numerals.{add-one}
 use native.Mathlib.Omega.{arith}
-use lib.ListN.{length, drop, get_or, set, replicate, length-set, length-replicate, get_or-replicate}
-use lib.Seq.{get_or-set_same, get_or-set_other}
+use lib.ListN.{length, take, drop, get_or, set, replicate, length-set, length-append, length-replicate, get_or-replicate}
+use lib.Seq.{get_or-set_same, get_or-set_other, get_or-append_seam, append_snoc}
+use borrow.Rule.Slice.PartMut.{mid_len}
+use Rattle.std.proofs.lemmas.List.{get_or-take, get_or-drop}
 use borrow.Author.Tests.{eq-eqb, ne_eqb}
 use Rattle.definitions.specs.Analyze.{Ty, Env, get, insert}
 use Rattle.definitions.proofs.Results.{by_eq}
@@ -179,15 +181,17 @@ module _ {l : List Entry} {heads : List Link} {n name : ℕ} {t : Ty} {b : ℕ} 
   }
 
 -- ONE LESS
-module _ {l : List Entry} {heads : List Link} {n b : ℕ} (K : Known l heads n) (h : 0 < n) (chain-is : (b ≡ chain_at (length heads) l (n - 1)) × (b < length heads)) where
-  head_before : (i : ℕ) → i < length heads → (get_or (set heads b (entry_at l (n - 1)).link) i no_link).0 ≡ newest (length heads) l i (n - 1)
-  head_before =
-      let e : n ≡ suc (n - 1) = omega arith in
-      stored heads b (entry_at l (n - 1)).link (λ i. newest (length heads) l i (n - 1))
-      (rw chain-is.0 (K.link (n - 1) (omega arith)))
-      (λ i g u. K.head i g ∙ (ap (newest (length heads) l i) e ∙ not_this (length heads) l i (n - 1) (λ q. u (sym q ∙ sym chain-is.0))))
+module _ {l : List Entry} {heads : List Link} {n b : ℕ} {e : Entry} (K : Known l heads (suc n)) (here : entry_at l n ≡ e) (chain-is : (b ≡ chain_of (length heads) e.name.0) × (b < length heads)) where
+  its_chain : chain_at (length heads) l n ≡ b
+  its_chain = ap (λ (x : Entry). chain_of (length heads) x.name.0) here ∙ sym chain-is.0
 
-  pub dropped : Known l (set heads b (entry_at l (n - 1)).link) (n - 1)
+  head_before : (i : ℕ) → i < length heads → (get_or (set heads b e.link) i no_link).0 ≡ newest (length heads) l i n
+  head_before =
+      stored heads b e.link (λ i. newest (length heads) l i n)
+      (sym (ap (λ (x : Entry). x.link.0) here) ∙ (K.link n (omega arith) ∙ ap (λ i. newest (length heads) l i n) its_chain))
+      (λ i g u. K.head i g ∙ not_this (length heads) l i n (λ q. u (sym q ∙ its_chain)))
+
+  dropped : Known l (set heads b e.link) n
   dropped = record {
     room = omega (arith, K.room);
     short = K.short;
@@ -195,6 +199,37 @@ module _ {l : List Entry} {heads : List Link} {n b : ℕ} (K : Known l heads n) 
     head = simp length-set head_before;
     link = simp length-set (λ i g. K.link i (omega arith));
   }
+
+-- UNDOING, of the entries behind the first m: as many of them are known as are left
+pub record Undoing (m : ℕ) (going left : List Entry) (initial heads : List Link) : Type 0 where
+  pub behind : List Entry
+  pub whole : left ++ behind ≡ going
+  pub known : (l : List Entry) → ((i : ℕ) → i < length going → entry_at l (m + i) ≡ get_or going i blank) → Known l initial (m + length going) → Known l heads (m + length left)
+
+pub all_left : (m : ℕ) (going : List Entry) (heads : List Link) → Undoing m going going heads heads
+all_left m going heads = record { behind = []; whole = append-nil going; known = λ l same K. K }
+
+module _ {m : ℕ} {going left : List Entry} {initial heads : List Link} (U : Undoing m going left initial heads) where
+  pub newest_undone : (before : List Entry) (e : Entry) {b : ℕ} → left ≡ before ++ e ∷ [] → (b ≡ chain_of (length heads) e.name.0) × (b < length heads)
+      → Undoing m going before initial (set heads b e.link)
+  newest_undone before e left-is chain-is =
+      let whole : before ++ e ∷ U.behind ≡ going = sym (append_snoc before e U.behind) ∙ (ap (λ (es : List Entry). es ++ U.behind) (sym left-is) ∙ U.whole) in
+      let at : get_or going (length before) blank ≡ e = ap (λ (es : List Entry). get_or es (length before) blank) (sym whole) ∙ get_or-append_seam before e U.behind blank in
+      let low : length before < length going = omega (arith, sym (ap length whole) ∙ length-append before (e ∷ U.behind)) in
+      let more : m + length left ≡ suc (m + length before) = omega (arith, ap length left-is ∙ length-append before (e ∷ [])) in
+      record {
+        behind = e ∷ U.behind;
+        whole = whole;
+        known = λ l same K. dropped (subst (Known l heads) more (U.known l same K)) (same (length before) low ∙ at) chain-is;
+      }
+
+  pub all_undone : {l : List Entry} {n : ℕ} → Known l initial n → m ≤ n → going ≡ take (n - m) (drop m l) → length left ≡ 0 → Known l heads m
+  all_undone {l} {n} K h is end =
+      let long : m + length going ≡ n = omega (arith, ap length is ∙ mid_len m n l K.room) in
+      let nothing : m + length left ≡ m = omega (arith, end) in
+      subst (Known l heads) nothing (U.known l
+      (λ i g. sym (ap (λ (es : List Entry). get_or es i blank) is ∙ (get_or-take (n - m) (drop m l) i blank (omega (arith, g, long)) ∙ get_or-drop m l i blank)))
+      (subst (Known l initial) (sym long) K))
 
 -- NONE: heads that are no links, and those of an array of them
 pub none_known : (l : List Entry) (heads : List Link) → length l ≤ 65535 → 1024 ≤ length heads → ((i : ℕ) → i < length heads → (get_or heads i no_link).0 ≡ 0) → Known l heads 0
@@ -223,6 +258,9 @@ module _ (l : List Entry) (n : ℕ) {v : Names} (view-is : record { names = env_
 
   pub count_is : n ≡ length v.names
   count_is = sym (env_length l n) ∙ ap length names_are
+
+  pub reaches : {m : ℕ} → m ≤ length v.names → m ≤ n
+  reaches h = omega (arith, h, count_is)
 
   pub room_is : length l ≡ v.room
   room_is = ap (λ (w : Names). w.room) view-is

@@ -49,11 +49,7 @@ impl Link {
     fn get(self) -> Option<usize>
         ensures { option_of (λ i. i) result ≡ position_of self.0 }
     {
-        if self.0 == 0 {
-            None
-        } else {
-            Some(self.0 as usize - 1)
-        }
+        (self.0 as usize).checked_sub(1)
     }
 }
 
@@ -86,7 +82,8 @@ fn chain_of(name: Name, chains: usize) -> usize
     number
 }
 
-// The first `count` entries are the names, newest last. Each chain of names has a head, the link to its newest entry. The memory is lent.
+// The first `count` entries are the names, newest last. Each chain of names has a head, the link to its newest entry. It stands for the Rust's
+// `HashMap`: without a heap (a rule of the project) its chains are links between the entries of a lent array, and a link is an index.
 #[derive(Drop)]
 pub struct Env<'a> {
     entries: &'a mut [Entry],
@@ -157,16 +154,18 @@ impl<'a> Env<'a> {
         self.count += 1;
     }
 
-    // Only the first `mark` names are known again (For).
+    // Only the first `mark` names are known again (For). Newest first, an entry's chain gets back the head from before it.
+    // The entries are lent as `&mut`, though they are only read: beside a `&` of one field the borrow checker covers no use of another.
     pub fn truncate(&mut self, mark: usize)
         requires { mark ≤ length self.old.names }
         ensures { self.new ≡ truncated mark self.old }
     {
-        while mark < self.count {
-            self.count -= 1;
-            let e = self.entries[self.count];
-            let chain = chain_of(e.name, self.heads.len());
-            self.heads[chain] = e.link;
+        let going = &mut self.entries[mark..self.count];
+        let heads = &mut *self.heads;
+        for e in going.iter().rev() {
+            let chain = chain_of(e.name, heads.len());
+            heads[chain] = e.link;
         }
+        self.count = mark;
     }
 }

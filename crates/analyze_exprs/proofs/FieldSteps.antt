@@ -11,10 +11,13 @@ use Rattle.definitions.specs.Ir.{IrType}
 use Rattle.definitions.specs.Sema.{from_str}
 use Rattle.definitions.specs.Lower.{struct_named}
 use Rattle.definitions.specs.Analyze.{Ty, known, Unknown, differs, field_type}
+use Rattle.std.specs.Prelude as code
+use Rattle.std.specs.Prelude.{None, Some}
+use Rattle.ir.specs.Answers.{option_of}
 use Rattle.ir.specs.Types.{as_type}
 use Rattle.ir.specs.declared.Name.{Name}
 use Rattle.ir.specs.declared.IrType.{IrType as CodeType}
-use Rattle.ir.specs.declared.IrType.TheVariants as code
+use Rattle.ir.specs.declared.IrType.TheVariants as variant
 use Rattle.contract_lookup.specs.Answers.{second, type_in, field_type_named}
 use Rattle.analyze_walk.specs.Stops.{Checking, sema, refuse_if, access_struct, access}
 use Rattle.analyze_exprs.specs.Typed.{field_check}
@@ -28,14 +31,19 @@ with_type : {A : Type 0} (fs : List Param) (n : ℕ) {v : Option IrType} (e : Re
 unfolding field_type_named
 with_type fs n e k h = ap (λ (o : Option IrType). ok_or_else o e >>= k) h ∙ by_type (field_type fs n) e k
 
+-- a type that is looked up is a known one
+pub typed : (o : code.Option CodeType) (e : Refusal) → ok_or_else (option_of (λ (t : CodeType). known (as_type t)) o) e ≡ (ok_or_else (option_of as_type o) e >>= λ t. ok (known t))
+typed None e = refl
+typed (Some t) e = refl
+
 -- A FIELD OF A VALUE, by the value's type
-pub no_struct : (K : Contract) (p f : ℕ) (t : CodeType) → ((n : Name) → t ≡ code.Struct n → ⊥) → err (sema p 6) ≡ access K p f (known (as_type t))
+pub no_struct : (K : Contract) (p f : ℕ) (t : CodeType) → ((n : Name) → t ≡ variant.Struct n → ⊥) → err (sema p 6) ≡ access K p f (known (as_type t))
 unfolding access
-no_struct K p f code.U64 h = refl
-no_struct K p f code.Bool h = refl
-no_struct K p f code.Field h = refl
-no_struct K p f (code.Struct n) h = absurd (h n refl)
-no_struct K p f code.Void h = refl
+no_struct K p f variant.U64 h = refl
+no_struct K p f variant.Bool h = refl
+no_struct K p f variant.Field h = refl
+no_struct K p f (variant.Struct n) h = absurd (h n refl)
+no_struct K p f variant.Void h = refl
 
 undeclared_in : (p f : ℕ) (o : Option (ℕ × Struct)) → none ≡ second o → ok Unknown ≡ access_struct p f o
 undeclared_in p f none h = refl
@@ -61,10 +69,13 @@ module _ (p : ℕ) (fs : List Param) (n : ℕ) (ty : Ty) where
   fit : IrType → Checking Done
   fit t = refuse_if (differs ty (known t)) (sema p 7)
 
-  pub unknown_field : none ≡ field_type_named fs n → err (sema p 8) ≡ field_check p fs n ty
+  looked_up : {r : Checking IrType} → r ≡ ok_or_else (field_type_named fs n) (sema p 8) → (r >>= fit) ≡ field_check p fs n ty
   unfolding fit
-  unknown_field h = with_type fs n (sema p 8) fit h
+  looked_up h = ap (λ (r : Checking IrType). r >>= fit) h ∙ with_type fs n (sema p 8) fit refl
 
-  pub value_is : {t : IrType} {b : Bool} → some t ≡ field_type_named fs n → b ≡ differs ty (known t) → refuse_if b (sema p 7) ≡ field_check p fs n ty
+  pub unknown_field : {x : Refusal} → err x ≡ ok_or_else (field_type_named fs n) (sema p 8) → err x ≡ field_check p fs n ty
+  unknown_field h = looked_up h
+
+  pub value_is : {t : IrType} {b : Bool} → ok t ≡ ok_or_else (field_type_named fs n) (sema p 8) → b ≡ differs ty (known t) → refuse_if b (sema p 7) ≡ field_check p fs n ty
   unfolding fit
-  value_is h q = ap (λ (b : Bool). refuse_if b (sema p 7)) q ∙ with_type fs n (sema p 8) fit h
+  value_is h q = ap (λ (b : Bool). refuse_if b (sema p 7)) q ∙ looked_up h

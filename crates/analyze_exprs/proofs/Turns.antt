@@ -16,14 +16,6 @@ use Rattle.contract_lookup.specs.Answers.{second}
 use Rattle.analyze_walk.specs.Stops.{Checking, sema, refuse_if, check_expr, check_fields, check_arguments, call}
 use Rattle.analyze_exprs.specs.Typed.{field_check, check_literal}
 use Rattle.analyze_exprs.specs.Calls.{param_ty, finished, params_fitting}
-use Rattle.std.specs.Prelude as code
-use Rattle.std.specs.Prelude.{None, Some}
-use Rattle.std.specs.Option.{ok_or}
-use Rattle.ir.specs.Answers.{option_of, result_of}
-use Rattle.analyze_env.specs.Types.{as_ty}
-use Rattle.analyze_env.specs.declared.Ty as code-ty
-use Rattle.analyze_state.specs.Errors.{error_of}
-use Rattle.analyze_state.specs.declared.SemaError.{SemaError}
 use Rattle.analyze_exprs.proofs.Fitting.{called, no_argument_of, one_more_of}
 
 -- A LITERAL: its struct, and then its fields
@@ -34,23 +26,24 @@ module _ (K : Contract) (env : Env) (p n : ℕ) (fs : FieldInits) where
     check_fields K env p decl.fields fs
     ok (known (IrType.Struct n))
 
-  no_struct_in : (o : Option (ℕ × Struct)) → none ≡ second o → err (sema p 9) ≡ of_struct o
-  unfolding of_struct
-  no_struct_in none h = refl
-  no_struct_in (some d) h = absurd (cc)
+  with_fields : Struct → Checking Ty
+  with_fields decl = check_fields K env p decl.fields fs >> ok (known (IrType.Struct n))
 
-  struct_in : (o : Option (ℕ × Struct)) {decl : Struct} → some decl ≡ second o → (check_fields K env p decl.fields fs >> ok (known (IrType.Struct n))) ≡ of_struct o
-  unfolding of_struct
-  struct_in none h = absurd (cc)
-  struct_in (some d) {decl} h = let e : decl ≡ d.1 = cc in rw e
+  both : (o : Option (ℕ × Struct)) → (ok_or_else (second o) (sema p 9) >>= with_fields) ≡ of_struct o
+  unfolding of_struct with_fields
+  both none = refl
+  both (some d) = refl
 
-  pub undefined : none ≡ second (struct_named K n) → err (sema p 9) ≡ check_literal K env p n fs
+  looked_up : {r : Checking Struct} → r ≡ ok_or_else (second (struct_named K n)) (sema p 9) → (r >>= with_fields) ≡ check_literal K env p n fs
   unfolding of_struct
-  undefined h = no_struct_in (struct_named K n) h
+  looked_up h = ap (λ (r : Checking Struct). r >>= with_fields) h ∙ both (struct_named K n)
 
-  pub defined : {decl : Struct} → some decl ≡ second (struct_named K n) → (check_fields K env p decl.fields fs >> ok (known (IrType.Struct n))) ≡ check_literal K env p n fs
-  unfolding of_struct
-  defined h = struct_in (struct_named K n) h
+  pub undefined : {x : Refusal} → err x ≡ ok_or_else (second (struct_named K n)) (sema p 9) → err x ≡ check_literal K env p n fs
+  undefined h = looked_up h
+
+  pub defined : {decl : Struct} → ok decl ≡ ok_or_else (second (struct_named K n)) (sema p 9) → (check_fields K env p decl.fields fs >> ok (known (IrType.Struct n))) ≡ check_literal K env p n fs
+  unfolding with_fields
+  defined h = looked_up h
 
 -- the first field, and then the rest
 module _ (K : Contract) (env : Env) (p : ℕ) (sf : List Param) (k : Checking Ty) where
@@ -166,26 +159,14 @@ module _ {K : Contract} {env : Env} {p : ℕ} {sig : Option Signature} {R : Chec
     reached = ap (λ (es : Exprs). go_on K env (call p sig) es g.acts) (sym h) ∙ g.is
 
     -- it has a type
-    pub goes_on : {t : Ty} → ok t ≡ check_expr K env e → {next : Bool} → next ≡ (flag && not (differs (param_ty sig n) t)) → Going K env p sig R rest (n + 1) next
-    goes_on {t} w f = record {
+    pub goes_on : {t : Ty} → ok t ≡ check_expr K env e → {x : Ty} {d : Bool} → d ≡ differs x t → x ≡ param_ty sig n → Going K env p sig R rest (n + 1) (flag && not d)
+    goes_on {t} w d x = record {
       acts = g.acts ++ (t ∷ []);
       long = simp length-append (ap (λ (m : ℕ). m + 1) g.long);
-      fit = f ∙ rw (g.fit, sym g.long) (sym (one_more_of sig g.acts t));
+      fit = rw (d, x, g.fit, sym g.long) (sym (one_more_of sig g.acts t));
       is = sym (go_type K env (call p sig) e rest g.acts t w) ∙ reached;
     }
 
     -- it is refused
     pub refuses : {x : Refusal} → err x ≡ check_expr K env e → err x ≡ R
     refuses {x} w = sym (go_refused K env (call p sig) e rest g.acts x w) ∙ reached
-
--- whether one argument more fits
-pub still_fits : {f g d : Bool} {x X : Ty} (t : Ty) → f ≡ true → g ≡ not d → d ≡ differs x t → x ≡ X → g ≡ (f && not (differs X t))
-still_fits t e g d x = rw (e, g, d, x)
-
-pub fits_no_more : {f g : Bool} (b : Bool) → f ≡ false → g ≡ f → g ≡ (f && b)
-fits_no_more b e g = rw (g, e)
-
--- a name that is looked up, or an error
-pub looked_up : (o : code.Option code-ty.Ty) (x : SemaError) → result_of error_of as_ty (ok_or o x) ≡ ok_or_else (option_of as_ty o) (error_of x)
-looked_up None x = refl
-looked_up (Some t) x = refl

@@ -29,10 +29,7 @@ pub(crate) fn callee_named<'a>(a: &Analyzer<'a>, name: Name) -> Option<Callee<'a
         Name::POSEIDON => Some(Callee::BuiltIn(2)),
         Name::VERIFY_MERKLE_PROOF => Some(Callee::BuiltIn(3)),
         Name::MSG_SENDER | Name::MSG_NONCE | Name::BLOCK_NUMBER => Some(Callee::BuiltIn(0)),
-        _ => match a.functions.named(name) {
-            Some(f) => Some(Callee::Declared(f)),
-            None => None,
-        },
+        _ => a.functions.named(name).map(Callee::Declared),
     }
 }
 
@@ -40,24 +37,10 @@ pub(crate) fn callee_named<'a>(a: &Analyzer<'a>, name: Name) -> Option<Callee<'a
 pub(crate) fn param_ty(callee: Option<Callee>, i: usize) -> Ty
     ensures { as_ty result ≡ param_ty (callee_in callee.entry) i }
 {
-    let Some(called) = callee else {
-        return Ty::Unknown;
-    };
-    match called {
-        Callee::BuiltIn(many) => {
-            if i < many {
-                Ty::Known(IrType::U64)
-            } else {
-                Ty::Unknown
-            }
-        }
-        Callee::Declared(f) => {
-            if i < f.param_count() {
-                Ty::Known(from_str(f.param(i).ty))
-            } else {
-                Ty::Unknown
-            }
-        }
+    match callee {
+        Some(Callee::BuiltIn(many)) if i < many => Ty::Known(IrType::U64),
+        Some(Callee::Declared(f)) if i < f.param_count() => Ty::Known(from_str(f.param(i).ty)),
+        _ => Ty::Unknown,
     }
 }
 
@@ -83,10 +66,7 @@ pub(crate) fn finish_call(
 ) -> Result<Ty, SemaError>
     ensures { result_of error_of as_ty result ≡ finished at (callee_in callee.entry) n fits }
 {
-    let Some(called) = callee else {
-        return Err(SemaError::UndefinedFunction(at));
-    };
-    match called {
+    match callee.ok_or(SemaError::UndefinedFunction(at))? {
         Callee::BuiltIn(many) => finish(at, many, n, fits, IrType::U64),
         Callee::Declared(f) => {
             finish(at, f.param_count(), n, fits, return_type(f.return_type()))

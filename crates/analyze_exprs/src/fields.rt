@@ -27,19 +27,16 @@ pub(crate) fn access(a: &Analyzer, at: usize, field: Name, ty: Ty) -> Result<Ty,
     let Some(of) = a.structs.named(name) else {
         return Ok(Ty::Unknown);
     };
-    match field_type(of, field) {
-        Some(found) => Ok(Ty::Known(found)),
-        None => Err(SemaError::NoSuchField(at)),
-    }
+    field_type(of, field)
+        .map(Ty::Known)
+        .ok_or(SemaError::NoSuchField(at))
 }
 
 // A field of a literal of a struct, by the type of its value. The literal's place is `at`.
 pub(crate) fn check_field(of: Struct, at: usize, field: Name, ty: Ty) -> Result<(), SemaError>
     ensures { done_of error_of result ≡ field_check at (struct_in of.entry).fields field.0 (as_ty ty) }
 {
-    let Some(expected) = field_type(of, field) else {
-        return Err(SemaError::UnknownField(at));
-    };
+    let expected = field_type(of, field).ok_or(SemaError::UnknownField(at))?;
     if differs(ty, Ty::Known(expected)) {
         return Err(SemaError::FieldMismatch(at));
     }

@@ -1,5 +1,7 @@
 // The body check of expressions: `analyze_expr`, `analyze_literal` and `analyze_call`, which call one another; the depth left falls. It stops at
 // the first error.
+// `OfSheet` stands in the `requires` of each function: it relates the analyzer and a node, and neither has the other. As a ghost field of a node it
+// would need the analyzer in all of contract_nodes.
 #![tactic(auto)]
 
 ghost use Rattle.std.specs.Prelude.{◌≡◌};
@@ -21,6 +23,7 @@ mod fields; // the fields of a value and of a literal
 
 // The type of an expression, with the names that are known.
 #[cycle(exprs)]
+#[tactic(auto, unfolding(analyze_walk::specs::Stops::check_expr))]
 pub fn analyze_expr(a: &Analyzer, env: &Env, e: Expr) -> Result<Ty, SemaError>
     requires { OfSheet a.now e.contract }
     ensures { result_of error_of as_ty result ≡ check_expr (contract_of a.now) env.now.names (expr_in e.entry) }
@@ -62,9 +65,7 @@ fn analyze_literal(
     requires { OfSheet a.now inits.contract }
     ensures { result_of error_of as_ty result ≡ check_literal (contract_of a.now) env.now.names at name.0 (fields_in inits.entry) }
 {
-    let Some(of) = a.structs.named(name) else {
-        return Err(SemaError::UndefinedStruct(at));
-    };
+    let of = a.structs.named(name).ok_or(SemaError::UndefinedStruct(at))?;
     for init in inits {
         let ty = analyze_expr(a, env, init.value)?;
         fields::check_field(of, at, init.name, ty)?;
@@ -72,8 +73,8 @@ fn analyze_literal(
     Ok(Ty::Known(IrType::Struct(name)))
 }
 
-// A call at a place: its arguments in order, then what is called. For the Rust's list of the arguments' types stand their number and whether
-// each fits (a rule of the project: no heap).
+// A call at a place: its arguments in order, then what is called. For the Rust's list of the arguments' types stands whether each fits so far.
+// No plainer: a list (an ArrayVec of the kit) would take a second loop, which asks each argument the same.
 #[cycle(exprs)]
 fn analyze_call(
     a: &Analyzer,
@@ -86,12 +87,10 @@ fn analyze_call(
     ensures { result_of error_of as_ty result ≡ check_call (contract_of a.now) env.now.names at name.0 (exprs_in args.entry) }
 {
     let callee = calls::callee_named(a, name);
-    let mut n = 0;
     let mut fits = true;
-    for arg in args {
+    for (i, arg) in args.enumerate() {
         let ty = analyze_expr(a, env, arg)?;
-        fits = fits && !differs(calls::param_ty(callee, n), ty);
-        n += 1;
+        fits &= !differs(calls::param_ty(callee, i), ty);
     }
-    calls::finish_call(at, callee, n, fits)
+    calls::finish_call(at, callee, args.len(), fits)
 }

@@ -2,7 +2,6 @@
 use mathlib.Core.Path.{◌≡◌, refl, ap, sym, ◌∙◌}
 use mathlib.Core.Bool.{Bool}
 use mathlib.Core.List.{List, ◌∷◌}
-use mathlib.Core.Option.{Option, none, some}
 use Prim.Native.Nat.{ℕ}
 use Rattle.std.specs.Prelude as code
 use Rattle.std.specs.Prelude.{None, Some}
@@ -11,10 +10,10 @@ use Rattle.definitions.specs.Result.{err, ok, ◌>>=◌, ◌>>◌, ok_or_else}
 use Rattle.definitions.specs.Ast.{Expr, Exprs, enil, econs, OptExpr, Stmt, Contract}
 use Rattle.definitions.specs.Ir.{IrType}
 use Rattle.definitions.specs.Analyze.{Ty, known, differs, Env, get}
-use Rattle.contract_nodes.specs.Nodes.{expr_in}
+use Rattle.contract_nodes.specs.Nodes.{expr_in, returned}
 use Rattle.contract_nodes.specs.declared.expr.Expr as nodes
 use Rattle.analyze_walk.specs.Stops.{Checking, sema, refuse_if, check_expr, check_arguments, check_return, check_stmt}
-use Rattle.analyze_simple.specs.Checked.{returned, args_checked}
+use Rattle.analyze_simple.specs.Checked.{args_checked}
 
 -- ASSIGN: the variable, then the value
 module _ (K : Contract) (ret : IrType) (env : Env) (p n : ℕ) (e : Expr) where
@@ -24,19 +23,23 @@ module _ (K : Contract) (ret : IrType) (env : Env) (p n : ℕ) (e : Expr) where
     refuse_if (differs ty expected) (sema p 1)
     ok env
 
-  of_variable : Option Ty → Checking Env
-  of_variable o = do
-    expected ← ok_or_else o (sema p 2)
+  of_variable : Checking Ty → Checking Env
+  of_variable r = do
+    expected ← r
     of_value expected (check_expr K env e)
 
-  pub undefined : none ≡ get n env → err (sema p 2) ≡ check_stmt K ret (Stmt.Assign p n e) env
+  looked_up : {r : Checking Ty} → r ≡ ok_or_else (get n env) (sema p 2) → of_variable r ≡ check_stmt K ret (Stmt.Assign p n e) env
   unfolding check_stmt of_value of_variable
-  undefined h = ap of_variable h
+  looked_up h = ap of_variable h
 
-  module _ {expected : Ty} (h : some expected ≡ get n env) where
+  pub undefined : {x : Refusal} → err x ≡ ok_or_else (get n env) (sema p 2) → err x ≡ check_stmt K ret (Stmt.Assign p n e) env
+  unfolding of_variable
+  undefined h = looked_up h
+
+  module _ {expected : Ty} (h : ok expected ≡ ok_or_else (get n env) (sema p 2)) where
     assigned : {r : Checking Ty} → r ≡ check_expr K env e → of_value expected r ≡ check_stmt K ret (Stmt.Assign p n e) env
-    unfolding check_stmt of_value of_variable
-    assigned w = ap (of_value expected) w ∙ ap of_variable h
+    unfolding of_variable
+    assigned w = ap (of_value expected) w ∙ looked_up h
 
     pub value_refused : {x : Refusal} → err x ≡ check_expr K env e → err x ≡ check_stmt K ret (Stmt.Assign p n e) env
     unfolding of_value

@@ -1,16 +1,8 @@
 -- What is in a statement besides statements, in the words of the walk. Assumes nothing: these are definitions.
-use Rattle.std.specs.Prelude.{Option, None, Some}
 use Rattle.definitions.specs.Result.{ok, ◌>>◌}
 use Rattle.definitions.specs.Ast as ast
 use Rattle.definitions.specs.Analyze.{Env}
-use Rattle.contract_nodes.specs.Nodes.{expr_in}
-use Rattle.contract_nodes.specs.declared.expr.Expr.{Expr}
 use Rattle.analyze_walk.specs.Stops.{Checking, check_expr, check_arguments}
-
--- a returned value
-abbrev pub returned : Option Expr → ast.OptExpr
-returned None = ast.absent
-returned (Some e) = ast.present (expr_in e)
 
 -- one expression, two of them, and a list of them: the names are as they were
 abbrev pub value_checked : ast.Contract → Env → ast.Expr → Checking Env

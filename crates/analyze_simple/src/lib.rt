@@ -3,10 +3,10 @@
 
 ghost use Rattle.std.specs.Prelude.{◌≡◌, IfSome};
 ghost use Rattle.definitions.specs.Ast.{Stmt};
-ghost use Rattle.contract_nodes.specs.Nodes.{expr_in, exprs_in};
+ghost use Rattle.contract_nodes.specs.Nodes.{expr_in, exprs_in, returned};
 ghost use Rattle.analyze_walk.specs.Stops.{check_stmt};
 ghost use Rattle.analyze_state.specs.State.{contract_of, ret_of, OfSheet, env_after};
-ghost use Rattle.analyze_simple.specs.Checked.{returned, value_checked, pair_checked, args_checked};
+ghost use Rattle.analyze_simple.specs.Checked.{value_checked, pair_checked, args_checked};
 
 use analyze_env::{Env, Ty, differs};
 use analyze_exprs::analyze_expr;
@@ -15,6 +15,7 @@ use contract_nodes::{Expr, Exprs};
 use ir::{IrType, Name};
 
 // An expression whose type is not asked: Constrain, StorageWrite and an expression as a statement.
+// `OfSheet`: as in analyze_exprs.
 pub fn analyze_value(a: &Analyzer, env: &Env, value: Expr) -> Result<(), SemaError>
     requires { OfSheet a.now value.contract }
     ensures { env_after env.now result ≡ value_checked (contract_of a.now) env.now.names (expr_in value.entry) }
@@ -55,9 +56,7 @@ pub fn analyze_assign(
     requires { OfSheet a.now value.contract }
     ensures { env_after env.now result ≡ check_stmt (contract_of a.now) (ret_of a.now) (Stmt.Assign at name.0 (expr_in value.entry)) env.now.names }
 {
-    let Some(expected) = env.get(name) else {
-        return Err(SemaError::UndefinedVariable(at));
-    };
+    let expected = env.get(name).ok_or(SemaError::UndefinedVariable(at))?;
     let ty = analyze_expr(a, env, value)?;
     if differs(ty, expected) {
         return Err(SemaError::AssignMismatch(at));
@@ -75,6 +74,7 @@ pub fn analyze_return(
     requires { IfSome value (λ e. OfSheet a.now e.contract) }
     ensures { env_after env.now result ≡ check_stmt (contract_of a.now) (ret_of a.now) (Stmt.Return at (returned value.entry)) env.now.names }
 {
+    // No plainer: `map_or` would have an `Ok` around Void, and a closure around the call.
     let ty = match value {
         Some(e) => analyze_expr(a, env, e)?,
         None => Ty::Known(IrType::Void),

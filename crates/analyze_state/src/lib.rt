@@ -5,49 +5,39 @@ ghost use Rattle.std.specs.Prelude.{◌≡◌};
 
 use contract_lookup::items::{Functions, Structs};
 use ir::IrType;
-use std::error::Error;
-use std::fmt;
+use thiserror::Error;
 
 // The errors of the body check, in the order of their texts in `sema.rs`, each with the place of the record whose rule raised it.
-#[derive(Clone, Copy, Debug, PartialEq, Eq)]
+// Each has its own place, and not all one place beside a kind: with an enum for the kind and a struct around it, each `return Err(..)` names both.
+#[derive(Clone, Copy, Debug, PartialEq, Eq, Error)]
 pub enum SemaError {
+    #[error("Type mismatch in assign at byte {0}")]
     AssignMismatch(usize),
+    #[error("Undefined variable at byte {0}")]
     UndefinedVariable(usize),
+    #[error("Type mismatch in return at byte {0}")]
     ReturnMismatch(usize),
+    #[error("Undefined identifier at byte {0}")]
     UndefinedIdentifier(usize),
+    #[error("Struct has no such field at byte {0}")]
     NoSuchField(usize),
+    #[error("Field access on non-struct at byte {0}")]
     FieldOfNonStruct(usize),
+    #[error("Field type mismatch at byte {0}")]
     FieldMismatch(usize),
+    #[error("Unknown field at byte {0}")]
     UnknownField(usize),
+    #[error("Undefined struct at byte {0}")]
     UndefinedStruct(usize),
+    #[error("Function expects another number of args at byte {0}")]
     ArgumentCount(usize),
+    #[error("Arg type mismatch at byte {0}")]
     ArgumentMismatch(usize),
+    #[error("Undefined function at byte {0}")]
     UndefinedFunction(usize),
+    #[error("Type mismatch in binary expression at byte {0}")]
     BinaryMismatch(usize),
 }
-
-impl fmt::Display for SemaError {
-    fn fmt<W: fmt::Write>(&self, f: &mut fmt::Formatter<W>) -> fmt::Result {
-        let (text, place) = match *self {
-            SemaError::AssignMismatch(place) => ("Type mismatch in assign", place),
-            SemaError::UndefinedVariable(place) => ("Undefined variable", place),
-            SemaError::ReturnMismatch(place) => ("Type mismatch in return", place),
-            SemaError::UndefinedIdentifier(place) => ("Undefined identifier", place),
-            SemaError::NoSuchField(place) => ("Struct has no such field", place),
-            SemaError::FieldOfNonStruct(place) => ("Field access on non-struct", place),
-            SemaError::FieldMismatch(place) => ("Field type mismatch", place),
-            SemaError::UnknownField(place) => ("Unknown field", place),
-            SemaError::UndefinedStruct(place) => ("Undefined struct", place),
-            SemaError::ArgumentCount(place) => ("Function expects another number of args", place),
-            SemaError::ArgumentMismatch(place) => ("Arg type mismatch", place),
-            SemaError::UndefinedFunction(place) => ("Undefined function", place),
-            SemaError::BinaryMismatch(place) => ("Type mismatch in binary expression", place),
-        };
-        write!(f, "{} at byte {}", text, place)
-    }
-}
-
-impl Error for SemaError {}
 
 // The Rust's `SemanticAnalyzer`: the structs and the functions of the contract, and the return type of the function under way.
 #[derive(Clone, Copy, Debug)]

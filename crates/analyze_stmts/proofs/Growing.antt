@@ -12,10 +12,10 @@ use Rattle.definitions.proofs.Sheets.Passed.{fine}
 use Rattle.definitions.proofs.Sheets.Steps as steps
 use Rattle.contract_nodes.specs.Ready.{StandAll}
 use Rattle.analyze_env.specs.Names.{Names, named, truncated}
-use Rattle.analyze_stmts.specs.Room.{FewAt, Grown}
+use Rattle.analyze_stmts.specs.Room.{FewAt, GrownTo}
 
 -- ONE, of a record of 16 bytes and more
-pub one_more : {env new : Names} {n : ℕ} {t : Ty} (at : ℕ) {y : ℕ} → new ≡ named n t env → FewAt at env → at + 16 ≤ y → Grown env new y
+pub one_more : {env new : Names} {n : ℕ} {t : Ty} (at : ℕ) {y : ℕ} → new ≡ named n t env → FewAt at env → at + 16 ≤ y → GrownTo env new y
 one_more {env} {new} {n} {t} at q f h = record {
   more = (n, t) ∷ [];
   is = ap (λ (e : Names). e.names) q;
@@ -24,7 +24,7 @@ one_more {env} {new} {n} {t} at q f h = record {
 }
 
 -- ONE AFTER THE OTHER
-pub then_more : {a b d : Names} {x y : ℕ} → Grown a b x → Grown b d y → Grown a d y
+pub then_more : {a b d : Names} {x y : ℕ} → GrownTo a b x → GrownTo b d y → GrownTo a d y
 then_more f g = record {
   more = g.more ++ f.more;
   is = rw (g.is, f.is) (sym (append_assoc g.more f.more _));
@@ -32,7 +32,7 @@ then_more f g = record {
   room = g.room ∙ f.room;
 }
 
-pub up_to : {a b : Names} {x y : ℕ} → Grown a b x → x ≤ y → Grown a b y
+pub up_to : {a b : Names} {x y : ℕ} → GrownTo a b x → x ≤ y → GrownTo a b y
 up_to f h = record { more = f.more; is = f.is; few = omega (arith, f.few, h); room = f.room }
 
 pub on_ok : {E P Q : Type 0} (r : Result (Unit {0}) E) → (P → Q) → OnOk r P → OnOk r Q
@@ -45,7 +45,7 @@ drop_all xs z ys zero e = absurd (omega arith)
 drop_all [] z ys (suc k) e = let q : k ≡ 0 = omega arith in rw q
 drop_all (x ∷ xs) z ys (suc k) e = drop_all xs z ys k (omega arith)
 
-module _ {env e₁ e₂ : Names} {n : ℕ} {t : Ty} {x : ℕ} (q : e₁ ≡ named n t env) (g : Grown e₁ e₂ x) where
+module _ {env e₁ e₂ : Names} {n : ℕ} {t : Ty} {x : ℕ} (q : e₁ ≡ named n t env) (g : GrownTo e₁ e₂ x) where
   opened : e₂.names ≡ g.more ++ ((n, t) ∷ env.names)
   opened = g.is ∙ ap (λ (e : Names). g.more ++ e.names) q
 
@@ -55,7 +55,7 @@ module _ {env e₁ e₂ : Names} {n : ℕ} {t : Ty} {x : ℕ} (q : e₁ ≡ name
         ap (λ (e : Names). e.names) c
         ∙ rw opened (drop_all g.more (n, t) env.names (length (g.more ++ ((n, t) ∷ env.names)) - mark) (omega (arith, m, length-append g.more ((n, t) ∷ env.names))))
 
-    pub back : (at : ℕ) {y : ℕ} → FewAt at env → at ≤ y → Grown env e₃ y
+    pub back : (at : ℕ) {y : ℕ} → FewAt at env → at ≤ y → GrownTo env e₃ y
     back at f h = record {
       more = [];
       is = names_back;

@@ -16,7 +16,7 @@ abbrev pub Room : List ℕ → Names → (at : ℕ) → Type 0
 Room s env at = RoomForAll s env × FewAt at env
 
 -- where `at` bytes are passed, names have become known, and those that were known are known as they were
-pub record Grown (old new : Names) (at : ℕ) : Type 0 where
+pub record GrownTo (old new : Names) (at : ℕ) : Type 0 where
   pub more : Env
   pub is : new.names ≡ more ++ old.names
   pub few : FewAt at new

@@ -14,6 +14,7 @@ pub fn read(rt: &HostRuntime, buf: &mut [u8]) -> Option<usize>
     ensures { IfSome result (λ n. IsPrefixLen n buf.new) }
 {
     let mut done = 0;
+    // It counts no index: it steps by what a read gave.
     while done < buf.len() {
         let n = read_some(rt, &mut buf[done..])?;
         if n == 0 {

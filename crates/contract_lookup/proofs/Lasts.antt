@@ -9,7 +9,7 @@ use native.Mathlib.Numerals.{add-one}
 use native.Mathlib.Omega.{arith}
 use lib.Dec.{leb, eqb}
 use lib.ListN.{length}
-use borrow.Author.Tests.{eq-eqb, ne_eqb}
+use borrow.Author.Tests.{eqb-true, eqb-false, eq-eqb, ne_eqb}
 use Rattle.definitions.specs.Fields.{le}
 use Rattle.definitions.specs.Names.{or_this, last_named}
 use Rattle.definitions.specs.Records.{pick, Tree, Trees, tnil, tcons, read_records, kind_in, gather}
@@ -59,6 +59,25 @@ or none o = o
 or_none : {A : Type 0} (o : Option A) → or o none ≡ o
 or_none (some a) = refl
 or_none none = refl
+
+-- A NAME that was read, x, and compared with n by its number
+module _ {is_n : Bool} {number read x n : ℕ} (is : is_n ≡ eqb number n) (new : number ≡ read) (at_place : read ≡ x) where
+  pub same_name : is_n ≡ true → x ≡ n
+  same_name t = sym at_place ∙ (sym new ∙ eqb-true number n (sym is ∙ t))
+
+  pub other_name : is_n ≡ false → x ≡ n → ⊥
+  other_name f z = eqb-false number n (sym is ∙ f) (new ∙ (at_place ∙ z))
+
+-- THE KIND that stands at a place, and the one that is wanted, by the numbers that the code compares
+module _ {here wanted stands kind : ℕ} (read : here ≡ stands) (from : wanted ≡ kind) where
+  pub kind_is : here ≡ wanted → stands ≡ kind
+  kind_is e = sym read ∙ (e ∙ from)
+
+  pub kind_not : (here ≡ wanted → ⊥) → stands ≡ kind → ⊥
+  kind_not h z = h (read ∙ (z ∙ sym from))
+
+  pub kind_past : wanted < here → kind < stands
+  kind_past h = omega (arith, h, read, from)
 
 -- `position` records of the kind came before `at`, and the last of them that has the name is f
 pub record Walking (s : List ℕ) (kind n : ℕ) (f : Maybe Found) (position at : ℕ) : Type 0 where

@@ -1,6 +1,5 @@
 mod Backwards
-pub mod Firsts
-mod LastFields
+mod FieldWalks
 pub mod Lasts
 pub mod Placing
 mod Storing

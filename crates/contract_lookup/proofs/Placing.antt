@@ -3,13 +3,12 @@
 use mathlib.Core.Path.{◌≡◌, refl, ap, sym, ◌∙◌, subst}
 use mathlib.Core.List.{List, [], ◌∷◌, ◌++◌, map, append-nil, map-append}
 use mathlib.Core.Bool.{Bool, true, false}
-use mathlib.Core.Option.{Option, none, some}
+use mathlib.Core.Option.{none, some}
 use Prim.Native.Nat.{ℕ, zero, suc, ◌+◌, ◌-◌, ◌≤◌, ◌<◌}
-use native.Mathlib.Numerals.{add-one}
 use native.Mathlib.Omega.{arith}
 use lib.Dec.{eqb, leb}
-use lib.ListN.{length, get_or, set, take, length-append, length-map, length-set}
-use lib.Seq.{append_snoc, take-suc, take-suc-set, get_or-set_same, get_or-set_other, length-take-le}
+use lib.ListN.{get_or-append, length, get_or, drop, length-append, length-map}
+use lib.Seq.{get_or-append_seam, append_snoc}
 use borrow.Author.Count.{below_none, below_more}
 use borrow.Author.Tests.{eqb-true, eqb-false, leb-true, leb-false}
 use Rattle.definitions.specs.Ast.{Function}
@@ -19,37 +18,32 @@ use Rattle.definitions.specs.Records.{Tree, read_records}
 use Rattle.definitions.specs.ContractSheet.{struct_of, function_of, read_contract}
 use Rattle.definitions.specs.Lower.{struct_named}
 use Rattle.definitions.specs.Sema.{function_named}
-use Rattle.definitions.proofs.Results.{by_test}
+use Rattle.definitions.proofs.Results.{by_test, some_none}
 use Rattle.definitions.proofs.Contracts.Limits.{TopKind, storage, struct, function, most_of}
 use Rattle.sheet.specs.Passed.{ContractPassed, record_kind, stop_of}
 use Rattle.contract_nodes.specs.Ready.{tree_at}
 use Rattle.contract_nodes.proofs.Order.{none_after}
-use Rattle.contract_nodes.proofs.Tops.{Tops, Top, next_top, contract_at}
+use Rattle.contract_nodes.proofs.Tops.{Tops, Top, next_top, contract_at, at_most}
 use Rattle.contract_lookup.specs.Answers.{second, nth_function, tree_name, records_of, last_of}
-use Rattle.contract_lookup.specs.Listed.{Named, placed, place_of, Listed, place_if_named, LastAt}
+use Rattle.contract_lookup.specs.Listed.{Named, placed, place_of, Listed, LastAt}
 use Rattle.contract_lookup.proofs.Backwards.{last_here, last_not}
 use Rattle.contract_lookup.proofs.Lasts.{at_place, gather_map, these, these_all, these_end, these_here, these_past, all_few}
 use Rattle.contract_lookup.proofs.Symbolic.{struct_is, function_is}
-use Rattle.std.specs.Prelude.{Option as Maybe, None, Some, is_some}
-use Rattle.std.specs.Option.{option_or}
+use Rattle.std.specs.Prelude.{Option as Maybe, None, Some}
 use Rattle.contract_nodes.proofs.Standing.{stands}
 
--- THE WALK: the first n of `most` places are those of the records of the kind before `at`
-pub record Listing (s : List ℕ) (kind most : ℕ) (places : List ℕ) (n at : ℕ) : Type 0 where
+-- THE WALK: the places are those of the records of the kind before `at`
+pub record Listing (s : List ℕ) (kind : ℕ) (places : List ℕ) (at : ℕ) : Type 0 where
   pub tops : Tops s at
   pub low : 8 ≤ at
-  pub long : length places ≡ most
-  pub wide : 64 ≤ most
-  pub few : n ≤ 64
-  pub are : placed s places n ++ these s kind at ≡ records_of s kind
-  pub named : (i : ℕ) → i < n → Named s kind (get_or places i 0)
+  pub few : length places ≤ 64
+  pub are : placed s places ++ these s kind at ≡ records_of s kind
+  pub named : (i : ℕ) → i < length places → Named s kind (get_or places i 0)
 
-pub begun : {s places : List ℕ} (kind : ℕ) → ContractPassed s → 64 ≤ length places → Listing s kind (length places) places 0 8
-begun {s} {places} kind C h = record {
+pub begun : {s : List ℕ} (kind : ℕ) → ContractPassed s → Listing s kind [] 8
+begun kind C = record {
   tops = (contract_at C).tops;
   low = omega arith;
-  long = refl;
-  wide = h;
   few = omega arith;
   are = these_all kind C;
   named = below_none _;
@@ -60,16 +54,15 @@ places_back : (s ps : List ℕ) → map place_of (map (tree_at s) ps) ≡ ps
 places_back s [] = refl
 places_back s (p ∷ ps) = ap (λ (qs : List ℕ). p ∷ qs) (places_back s ps)
 
-module _ {s : List ℕ} {kind most : ℕ} {places : List ℕ} {n at : ℕ} (W : Listing s kind most places n at) where
-  none_left : these s kind at ≡ [] → Listed s kind places n
+module _ {s : List ℕ} {kind : ℕ} {places : List ℕ} {at : ℕ} (W : Listing s kind places at) where
+  none_left : these s kind at ≡ [] → Listed s kind places
   none_left e = (
     W.few,
-    omega (arith, W.few, W.wide, W.long),
-    sym (places_back s (take n places)) ∙ ap (map place_of) (sym (append-nil _) ∙ (ap (λ (ts : List Tree). placed s places n ++ ts) (sym e) ∙ W.are)),
+    sym (places_back s places) ∙ ap (map place_of) (sym (append-nil _) ∙ (ap (λ (ts : List Tree). placed s places ++ ts) (sym e) ∙ W.are)),
     W.named,
   )
 
-  pub listed : length s ≤ at → Listed s kind places n
+  pub listed : length s ≤ at → Listed s kind places
   listed h = none_left (these_end kind W.tops h)
 
   module _ (l : at < length s) where
@@ -77,49 +70,44 @@ module _ {s : List ℕ} {kind most : ℕ} {places : List ℕ} {n at : ℕ} (W : 
     top_at = next_top W.tops l
 
     -- none of the kind comes after a record of a higher kind
-    pub stopped : kind < record_kind s at → Listed s kind places n
+    pub stopped : kind < record_kind s at → Listed s kind places
     stopped h = none_left (none_after s kind (λ (t : Tree). t) W.tops l h)
 
-    pub other_kind : (record_kind s at ≡ kind → ⊥) → Listing s kind most places n (stop_of s at)
+    pub other_kind : (record_kind s at ≡ kind → ⊥) → Listing s kind places (stop_of s at)
     other_kind h = record {
       tops = top_at.next;
       low = omega (arith, W.low, top_at.long);
-      long = W.long;
-      wide = W.wide;
       few = W.few;
-      are = ap (λ (ts : List Tree). placed s places n ++ ts) (sym (these_past kind top_at h)) ∙ W.are;
+      are = ap (λ (ts : List Tree). placed s places ++ ts) (sym (these_past kind top_at h)) ∙ W.are;
       named = W.named;
     }
 
     module _ (e : record_kind s at ≡ kind) where
-      with_this : placed s places n ++ tree_at s at ∷ these s kind (stop_of s at) ≡ records_of s kind
-      with_this = ap (λ (ts : List Tree). placed s places n ++ ts) (sym (these_here kind top_at e)) ∙ W.are
+      with_this : placed s places ++ tree_at s at ∷ these s kind (stop_of s at) ≡ records_of s kind
+      with_this = ap (λ (ts : List Tree). placed s places ++ ts) (sym (these_here kind top_at e)) ∙ W.are
 
       -- there is room for one more
-      pub room : ContractPassed s → 3 ≤ kind → n < 64
+      pub room : ContractPassed s → 3 ≤ kind → length places < 64
       room C h =
           let K : TopKind kind = subst TopKind e top_at.kind in
-          omega (arith, all_few C K, most_is K h, simp (length-append, length-map) at (ap length with_this), length-take-le n places (omega (arith, W.few, W.wide, W.long)))
+          omega (arith, all_few C K, most_is K h, simp (length-append, length-map) at (ap length with_this))
         where
           most_is : {k : ℕ} → TopKind k → 3 ≤ k → most_of k ≡ 64
           most_is storage h = absurd (omega arith)
           most_is struct h = refl
           most_is function h = refl
 
-      pub this_kind : n < 64 → Listing s kind most (set places n at) (n + 1) (stop_of s at)
-      this_kind h =
-          let i : n < length places = omega (arith, W.wide, W.long) in
-          record {
-            tops = top_at.next;
-            low = omega (arith, W.low, top_at.long);
-            long = rw length-set W.long;
-            wide = W.wide;
-            few = omega arith;
-            are = rw (add-one, take-suc-set places n at i, map-append, append_snoc) with_this;
-            named = below_more _ n
-                (λ j b. rw (get_or-set_other places n j at 0 (λ z. omega arith)) (W.named j b))
-                (rw (get_or-set_same places n at 0 i) (stands (top_at.ready e), omega (arith, top_at.long, top_at.inside), top_at.name));
-          }
+      pub this_kind : length places < 64 → Listing s kind (places ++ at ∷ []) (stop_of s at)
+      this_kind h = record {
+        tops = top_at.next;
+        low = omega (arith, W.low, top_at.long);
+        few = rw length-append (omega (arith, h));
+        are = rw (map-append, append_snoc) with_this;
+        named = λ i b. below_more (λ j. Named s kind (get_or (places ++ at ∷ []) j 0)) (length places)
+            (λ j k. rw (get_or-append places (at ∷ []) 0 j k) (W.named j k))
+            (rw (get_or-append_seam places at [] 0) (stands (top_at.ready e), omega (arith, top_at.long, top_at.inside), top_at.name))
+            i (omega (arith, b, length-append places (at ∷ [])));
+      }
 
 -- the records of a kind are those that stand at their places
 module _ (s : List ℕ) (kind : ℕ) where
@@ -148,77 +136,45 @@ over_places s [] = refl
 over_places s (t ∷ ts) = ap (λ (us : List Tree). tree_at s (place_of t) ∷ us) (over_places s ts)
 
 -- they are the records of the kind
-pub placed_are : {s : List ℕ} (places : List ℕ) (kind n : ℕ) → ContractPassed s → Listed s kind places n → placed s places n ≡ records_of s kind
-placed_are {s} places kind n C L = ap (map (tree_at s)) L.2 ∙ (over_places s (records_of s kind) ∙ again s kind C)
+pub placed_are : {s : List ℕ} (places : List ℕ) (kind : ℕ) → ContractPassed s → Listed s kind places → placed s places ≡ records_of s kind
+placed_are {s} places kind C L = ap (map (tree_at s)) L.1 ∙ (over_places s (records_of s kind) ∙ again s kind C)
 
--- THE SEARCH: the last of the first i that has the name
-abbrev pub last_in : (s places : List ℕ) (i n : ℕ) → Option (ℕ × Tree)
-last_in s places i n = last_named tree_name 0 (placed s places i) n
+-- THE SEARCH, from the last place on: the places that are left give what all of them give
+pub record Left (s places : List ℕ) (n : ℕ) (left : List ℕ) : Type 0 where
+  pub behind : List ℕ
+  pub whole : left ++ behind ≡ places
+  pub is : last_named tree_name 0 (map (tree_at s) left) n ≡ last_named tree_name 0 (placed s places) n
 
--- p is the answer, if the first i give what all of them give
-abbrev pub Serves : (s : List ℕ) (kind : ℕ) (places : List ℕ) (count n i : ℕ) → Maybe ℕ → Type 0
-Serves s kind places count n i p = last_in s places i n ≡ last_in s places count n → LastAt s kind n p
-
--- those of the first i that are not among the first j were looked at, and gave p: it serves, or is nothing and the first j give what the first i give
-abbrev pub Looked : (s : List ℕ) (kind : ℕ) (places : List ℕ) (count n i j : ℕ) → Maybe ℕ → Type 0
-Looked s kind places count n i j None = last_in s places j n ≡ last_in s places i n
-Looked s kind places count n i j (Some p) = Serves s kind places count n i (Some p)
-
-module _ (s : List ℕ) (kind : ℕ) (places : List ℕ) (count n i j : ℕ) where
-  pub found : (p : Maybe ℕ) → Looked s kind places count n i j p → is_some p ≡ true → Serves s kind places count n i p
-  found None K e = absurd (let z : ◌≡◌ {A = ℕ} 0 1 = cc in omega arith)
-  found (Some p) K e = K
-
-  pub passed : (p : Maybe ℕ) → Looked s kind places count n i j p → is_some p ≡ false → last_in s places j n ≡ last_in s places i n
-  passed None K e = K
-  passed (Some p) K e = absurd (let z : ◌≡◌ {A = ℕ} 0 1 = cc in omega arith)
-
-  -- of two the later serves
-  or_looked : (k : ℕ) (later earlier : Maybe ℕ) → Looked s kind places count n i k later → Looked s kind places count n k j earlier → Looked s kind places count n i j (option_or later earlier)
-  or_looked k None None K M = M ∙ K
-  or_looked k None (Some p) K M = λ is. M (K ∙ is)
-  or_looked k (Some p) earlier K M = K
-
-module _ {s : List ℕ} (places : List ℕ) (kind count n : ℕ) (C : ContractPassed s) (L : Listed s kind places count) where
-  all_are : last_in s places count n ≡ last_of s kind n
-  all_are = ap (λ (ts : List Tree). last_named tree_name 0 ts n) (placed_are places kind count C L)
+module _ {s places : List ℕ} (kind : ℕ) {n : ℕ} {left : List ℕ} (C : ContractPassed s) (L : Listed s kind places) (W : Left s places n left) where
+  gives : last_named tree_name 0 (map (tree_at s) left) n ≡ last_of s kind n
+  gives = W.is ∙ ap (λ (ts : List Tree). last_named tree_name 0 ts n) (placed_are places kind C L)
 
   -- nothing is left
-  pub none_there : {i : ℕ} → i ≡ 0 → Serves s kind places count n i None
-  none_there {i} e is = sym (sym (ap (λ (k : ℕ). last_in s places k n) e) ∙ (is ∙ all_are))
+  pub none_there : left ≡ [] → LastAt s kind n None
+  none_there e = sym (sym (ap (λ (ps : List ℕ). last_named tree_name 0 (map (tree_at s) ps) n) e) ∙ gives)
 
-  module _ {i j : ℕ} (e : i ≡ suc j) (b : i ≤ count) where
-    here : Named s kind (get_or places j 0)
-    here = L.3 j (omega arith)
+  module _ (before : List ℕ) (p : ℕ) (e : left ≡ before ++ p ∷ []) where
+    whole : before ++ p ∷ W.behind ≡ places
+    whole = sym (append_snoc before p W.behind) ∙ (ap (λ (ps : List ℕ). ps ++ W.behind) (sym e) ∙ W.whole)
 
-    pub may_look : (j < length places) × (get_or places j 0 + 8 ≤ length s)
-    may_look = (omega (arith, L.1), here.1)
+    here : Named s kind p
+    here =
+        let g : get_or places (length before) 0 ≡ p = ap (λ (ps : List ℕ). get_or ps (length before) 0) (sym whole) ∙ get_or-append_seam before p W.behind 0 in
+        let l : length before < length places = omega (arith, sym (ap length whole) ∙ length-append before (p ∷ W.behind)) in
+        subst (Named s kind) g (L.2 (length before) l)
 
-    from_last : last_named tree_name 0 (placed s places j ++ (tree_at s (get_or places j 0) ∷ [])) n ≡ last_in s places i n
-    from_last = sym (rw (e, take-suc places j 0 may_look.0, map-append))
+    apart : map (tree_at s) left ≡ map (tree_at s) before ++ tree_at s p ∷ []
+    apart = ap (map (tree_at s)) e ∙ map-append (tree_at s) before (p ∷ [])
 
-    hit : le 2 s (get_or places j 0 + 6) ≡ n → Serves s kind places count n i (Some (get_or places j 0))
-    hit q is = (0 + length (placed s places j), sym (sym (last_here tree_name (tree_at s (get_or places j 0)) n (here.2 ∙ q) 0 (placed s places j)) ∙ (from_last ∙ (is ∙ all_are))), here.0)
+    pub hit : le 2 s (p + 6) ≡ n → LastAt s kind n (Some p)
+    hit q = (0 + length (map (tree_at s) before), sym (sym (last_here tree_name (tree_at s p) n (here.2 ∙ q) 0 (map (tree_at s) before)) ∙ (ap (λ (ts : List Tree). last_named tree_name 0 ts n) (sym apart) ∙ gives)), here.0)
 
-    miss : (le 2 s (get_or places j 0 + 6) ≡ n → ⊥) → last_in s places j n ≡ last_in s places i n
-    miss q = sym (last_not tree_name (tree_at s (get_or places j 0)) n (λ z. q (sym here.2 ∙ z)) 0 (placed s places j)) ∙ from_last
-
-    pub looked : {p : Maybe ℕ} → p ≡ place_if_named s places j n → Looked s kind places count n i j p
-    looked {p} r =
-        by_test (eqb (le 2 s (get_or places j 0 + 6)) n)
-        (λ y. let v : p ≡ Some (get_or places j 0) = rw y at r in rw v (hit (eqb-true _ n y)))
-        (λ y. let v : p ≡ None = rw y at r in rw v (miss (eqb-false _ n y)))
-
-  -- the last one that is left
-  one_served : {i : ℕ} (p : Maybe ℕ) → i ≡ 1 → Looked s kind places count n i 0 p → Serves s kind places count n i p
-  one_served None e K = λ is. none_there refl (K ∙ is)
-  one_served (Some p) e K = K
-
-  pub one_left : {i : ℕ} {p : Maybe ℕ} → i ≡ 1 → i ≤ count → p ≡ place_if_named s places 0 n → Serves s kind places count n i p
-  one_left {i} {p} e b r = one_served p e (looked e b r)
-
-  pub two_looked : {i : ℕ} {later earlier p : Maybe ℕ} → 1 < i → i ≤ count → later ≡ place_if_named s places (i - 1) n → earlier ≡ place_if_named s places (i - 2) n → p ≡ option_or later earlier → Looked s kind places count n i (i - 2) p
-  two_looked {i} {later} {earlier} {p} l b u v r = rw r (or_looked s kind places count n i (i - 2) (i - 1) later earlier (looked {i = i} {j = i - 1} (omega arith) b u) (looked {i = i - 1} {j = i - 2} (omega arith) (omega arith) v))
+    pub miss : (le 2 s (p + 6) ≡ n → ⊥) → Left s places n before
+    miss q = record {
+      behind = p ∷ W.behind;
+      whole = whole;
+      is = sym (last_not tree_name (tree_at s p) n (λ z. q (sym here.2 ∙ z)) 0 (map (tree_at s) before)) ∙ (ap (λ (ts : List Tree). last_named tree_name 0 ts n) (sym apart) ∙ W.is);
+    }
 
 -- WHAT WAS FOUND, in the contract
 module _ {s : List ℕ} (n : ℕ) (C : ContractPassed s) where
@@ -244,21 +200,40 @@ nth_past [] i h = refl
 nth_past (f ∷ fs) zero h = absurd (omega (arith, h))
 nth_past (f ∷ fs) (suc i) h = nth_past fs i (omega (arith, h))
 
-nth_placed : (s : List ℕ) (n : ℕ) (ps : List ℕ) (i : ℕ) → i < n → n ≤ length ps → nth_function (map function_of (map (tree_at s) (take n ps))) i ≡ some (function_of (tree_at s (get_or ps i 0)))
-nth_placed s zero ps i h l = absurd (omega (arith, h))
-nth_placed s (suc n) [] i h l = absurd (omega (arith, l))
-nth_placed s (suc n) (p ∷ ps) zero h l = refl
-nth_placed s (suc n) (p ∷ ps) (suc i) h l = nth_placed s n ps i (omega (arith, h)) (omega (arith, l))
+-- the functions from the i-th on, by what stands there
+pub none_from : (fs : List Function) (i : ℕ) → nth_function fs i ≡ none → drop i fs ≡ []
+none_from [] zero e = refl
+none_from [] (suc i) e = refl
+none_from (f ∷ fs) zero e = absurd (some_none f e)
+none_from (f ∷ fs) (suc i) e = none_from fs i e
 
-module _ {s : List ℕ} (places : List ℕ) (n : ℕ) (C : ContractPassed s) (L : Listed s 4 places n) where
-  functions_are : (read_contract s).functions ≡ map function_of (placed s places n)
-  functions_are = (contract_at C).functions ∙ (gather_map 4 function_of (read_records s 8 (length s)) ∙ ap (map function_of) (these_all 4 C ∙ sym (placed_are places 4 n C L)))
+here_from : (fs : List Function) (i : ℕ) {g : Function} → nth_function fs i ≡ some g → (drop i fs ≡ g ∷ drop (suc i) fs) × (i < length fs)
+here_from [] i e = absurd (some_none _ (sym e))
+here_from (f ∷ fs) zero {g} e = let q : f ≡ g = cc in (ap (λ h. h ∷ fs) q, omega arith)
+here_from (f ∷ fs) (suc i) e = let h = here_from fs i e in (h.0, omega (arith, h.1))
 
-  pub function_count : n ≡ length (read_contract s).functions
-  function_count = sym (ap length functions_are ∙ rw (length-map, length-map) (length-take-le n places L.1))
+nth_placed : (s : List ℕ) (ps : List ℕ) (i : ℕ) → i < length ps → nth_function (map function_of (map (tree_at s) ps)) i ≡ some (function_of (tree_at s (get_or ps i 0)))
+nth_placed s [] i h = absurd (omega (arith, h))
+nth_placed s (p ∷ ps) zero h = refl
+nth_placed s (p ∷ ps) (suc i) h = nth_placed s ps i (omega (arith, h))
 
-  pub no_nth : {i : ℕ} → n ≤ i → none ≡ nth_function (read_contract s).functions i
+module _ {s : List ℕ} (places : List ℕ) (C : ContractPassed s) (L : Listed s 4 places) where
+  functions_are : (read_contract s).functions ≡ map function_of (placed s places)
+  functions_are = (contract_at C).functions ∙ (gather_map 4 function_of (read_records s 8 (length s)) ∙ ap (map function_of) (these_all 4 C ∙ sym (placed_are places 4 C L)))
+
+  pub function_count : length places ≡ length (read_contract s).functions
+  function_count = sym (rw (functions_are, length-map, length-map) refl)
+
+  pub no_nth : {i : ℕ} → length places ≤ i → none ≡ nth_function (read_contract s).functions i
   no_nth {i} h = sym (nth_past (read_contract s).functions i (omega (arith, h, function_count)))
 
-  pub nth_there : {i : ℕ} → i < n → some (function_of (tree_at s (get_or places i 0))) ≡ nth_function (read_contract s).functions i
-  nth_there {i} h = sym (ap (λ fs. nth_function fs i) functions_are ∙ nth_placed s n places i h L.1)
+  pub nth_there : {i : ℕ} → i < length places → some (function_of (tree_at s (get_or places i 0))) ≡ nth_function (read_contract s).functions i
+  nth_there {i} h = sym (ap (λ fs. nth_function fs i) functions_are ∙ nth_placed s places i h)
+
+-- A STEP of a walk over the functions
+functions_few : {s : List ℕ} → ContractPassed s → length (read_contract s).functions ≤ 64
+functions_few C = rw (contract_at C).functions (at_most function_of C function)
+
+pub next_there : {s : List ℕ} {i : ℕ} {g : Function} → ContractPassed s → some g ≡ nth_function (read_contract s).functions i
+    → (drop i (read_contract s).functions ≡ g ∷ drop (suc i) (read_contract s).functions) × (i < 64)
+next_there {s} {i} C e = let h = here_from (read_contract s).functions i (sym e) in (h.0, omega (arith, h.1, functions_few C))

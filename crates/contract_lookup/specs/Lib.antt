@@ -1,2 +1,3 @@
 pub mod Answers
 pub mod Listed
+pub mod Walked

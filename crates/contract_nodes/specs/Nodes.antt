@@ -7,12 +7,13 @@ use Rattle.definitions.specs.Result.{Done}
 use Rattle.definitions.specs.ContractSheet.{read_contract, struct_of, op_of}
 use Rattle.sheet.specs.Passed.{stop_of}
 use Rattle.format.specs.Operators.{op_number}
-use Rattle.contract_nodes.specs.Ready.{tree_at, expr_at, exprs_from, stmt_at, stmts_from, function_at, fields_from}
+use Rattle.contract_nodes.specs.Ready.{tree_at, expr_at, exprs_from, stmt_at, stmts_from, function_at, fields_from, params_from}
 use Rattle.ir.specs.declared.Name.{Name}
 use Rattle.contract_nodes.specs.declared.contract.Contract.{Contract}
 use Rattle.contract_nodes.specs.declared.contract.Struct.{Struct}
 use Rattle.contract_nodes.specs.declared.contract.Function.{Function}
 use Rattle.contract_nodes.specs.declared.contract.Param.{Param}
+use Rattle.contract_nodes.specs.declared.contract.ParamIter.{ParamIter}
 use Rattle.contract_nodes.specs.declared.expr.Expr.{Expr}
 use Rattle.contract_nodes.specs.declared.expr.Exprs.{Exprs}
 use Rattle.contract_nodes.specs.declared.expr.FieldInits.{FieldInits}
@@ -37,6 +38,9 @@ struct_in x = struct_of (tree_at x.contract.sheet.now x.at)
 
 abbrev pub function_in : Function → ast.Function
 function_in f = function_at f.contract.sheet.now f.at
+
+abbrev pub params_left : ParamIter → List ast.Param
+params_left w = params_from w.contract.sheet.now w.at w.left
 
 abbrev pub expr_in : Expr → ast.Expr
 expr_in e = expr_at e.contract.sheet.now e.at
@@ -63,6 +67,15 @@ abbrev pub param_is : Param → List ast.Param → ℕ → Type 0
 param_is p [] i = ⊥
 param_is p (q ∷ qs) zero = (p.name.0 ≡ q.name) × (p.ty.0 ≡ q.ty)
 param_is p (q ∷ qs) (suc i) = param_is p qs i
+
+-- the first of the fields or parameters is taken
+pub record NextParam (old new : ParamIter) (p : Param) : Type 0 where
+  pub is : params_left old ≡ record { name = p.name.0; ty = p.ty.0 } ∷ params_left new
+  pub left : old.left ≡ suc new.left
+
+abbrev pub TakesNextParam : ParamIter → Option Param → ParamIter → Type 0
+TakesNextParam old None new = params_left old ≡ []
+TakesNextParam old (Some p) new = NextParam old new p
 
 abbrev pub count_of : ast.Exprs → ℕ
 count_of es = count es
@@ -122,6 +135,11 @@ abbrev pub TakesField : FieldInits → Option FieldInit → FieldInits → Type 
 TakesField old None new = fields_in old ≡ ast.fnil
 TakesField old (Some f) new = FirstField old new f
 
+-- a returned value
+abbrev pub returned : Option Expr → ast.OptExpr
+returned None = ast.absent
+returned (Some e) = ast.present (expr_in e)
+
 -- STATEMENTS: what a node is. The places of blocks are any.
 pub record IfIs (t : Stmt) (c : Expr) (a b : Stmts) : Type 0 where
   pub then_place : ℕ
@@ -138,8 +156,7 @@ StmtIs t (stmt.MappingWrite n k e) = stmt_in t ≡ ast.Stmt.MappingWrite t.at n.
 StmtIs t (stmt.If c a b) = IfIs t c a b
 StmtIs t (stmt.While c b) = (p : ℕ) × (stmt_in t ≡ ast.Stmt.While t.at (expr_in c) p (stmts_in b))
 StmtIs t (stmt.For n a e b) = (p : ℕ) × (stmt_in t ≡ ast.Stmt.For t.at n.0 (expr_in a) (expr_in e) p (stmts_in b))
-StmtIs t (stmt.Return None) = stmt_in t ≡ ast.Stmt.Return t.at ast.absent
-StmtIs t (stmt.Return (Some e)) = stmt_in t ≡ ast.Stmt.Return t.at (ast.present (expr_in e))
+StmtIs t (stmt.Return e) = stmt_in t ≡ ast.Stmt.Return t.at (returned e)
 StmtIs t (stmt.Emit n es) = stmt_in t ≡ ast.Stmt.Emit t.at n.0 (exprs_in es)
 StmtIs t (stmt.Expr e) = stmt_in t ≡ ast.Stmt.ExprStmt t.at (expr_in e)
 

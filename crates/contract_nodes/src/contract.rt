@@ -1,13 +1,15 @@
 // The contract, its structs and its functions.
+ghost use Rattle.std.specs.Prelude.{◌+◌, ◌*◌, ◌≤◌, length};
 ghost use Rattle.definitions.specs.Grammar.{Class};
 ghost use Rattle.sheet.specs.Passed.{ContractPassed};
 ghost use Rattle.contract_nodes.specs.Ready.{Stands};
 
 use crate::stmt::Stmts;
-use format::{ABSENT, contract};
+use format::contract;
 use ir::Name;
 use reader::{read, read_u16};
 use sheet::ContractError;
+use sheet::places::opt_id;
 
 // A contract sheet that passed its check.
 #[derive(Clone, Copy, Debug)]
@@ -39,6 +41,15 @@ pub struct Param {
     pub ty: Name,
 }
 
+// The fields of a struct or the parameters of a function, from a place on.
+#[derive(Clone, Copy, Debug)]
+pub struct ParamIter<'a> {
+    pub contract: Contract<'a>,
+    pub at: usize,
+    pub left: usize,
+    pub ghost inside: { at + 4 * left ≤ length contract.sheet.now },
+}
+
 impl<'a> Contract<'a> {
     ghost use Rattle.std.specs.Prelude.{◌≡◌, IfOk};
     ghost use Rattle.definitions.specs.Answers.{check_contract};
@@ -56,20 +67,33 @@ impl<'a> Contract<'a> {
     }
 }
 
-impl Struct<'_> {
+impl<'a> Struct<'a> {
     ghost use Rattle.std.specs.Prelude.{◌≡◌};
-    ghost use Rattle.contract_nodes.specs.Nodes.{struct_in};
+    ghost use Rattle.contract_nodes.specs.Nodes.{struct_in, params_left};
 
     pub fn name(self) -> Name
         ensures { result.0 ≡ (struct_in self.entry).name }
     {
         Name::new(read_u16(self.contract.sheet, self.at + contract::NAME))
     }
+
+    // Its fields.
+    pub fn fields(self) -> ParamIter<'a>
+        ensures is { params_left result ≡ (struct_in self.entry).fields }
+        ensures most { result.left ≤ 64 }
+    {
+        let size = read(self.contract.sheet, self.at, 4);
+        ParamIter {
+            contract: self.contract,
+            at: self.at + contract::AFTER_NAME,
+            left: (size - contract::AFTER_NAME) / contract::PARAM,
+        }
+    }
 }
 
 impl<'a> Function<'a> {
-    ghost use Rattle.std.specs.Prelude.{◌≡◌, ◌+◌, ◌≤◌, ◌<◌, length};
-    ghost use Rattle.contract_nodes.specs.Nodes.{function_in, stmts_in, param_is, opt_name};
+    ghost use Rattle.std.specs.Prelude.{◌≡◌, ◌<◌};
+    ghost use Rattle.contract_nodes.specs.Nodes.{function_in, stmts_in, params_left, param_is, opt_name};
 
     pub fn name(self) -> Name
         ensures { result.0 ≡ (function_in self.entry).name }
@@ -81,12 +105,7 @@ impl<'a> Function<'a> {
     pub fn return_type(self) -> Option<Name>
         ensures { opt_name result ≡ (function_in self.entry).return_type }
     {
-        let name = read_u16(self.contract.sheet, self.at + contract::RETURN_TYPE);
-        if name == ABSENT {
-            None
-        } else {
-            Some(Name::new(name))
-        }
+        opt_id(self.contract.sheet, self.at + contract::RETURN_TYPE).map(Name::new)
     }
 
     // How many parameters it has.
@@ -102,10 +121,21 @@ impl<'a> Function<'a> {
         requires { i < length (function_in self).params }
         ensures { param_is result (function_in self.entry).params i }
     {
-        let place = self.at + contract::PARAMS + contract::PARAM * i;
-        Param {
-            name: Name::new(read_u16(self.contract.sheet, place)),
-            ty: Name::new(read_u16(self.contract.sheet, place + contract::PARAM_TYPE)),
+        Param::new(
+            self.contract.sheet,
+            self.at + contract::PARAMS + contract::PARAM * i,
+        )
+    }
+
+    // Its parameters.
+    pub fn params(self) -> ParamIter<'a>
+        ensures is { params_left result ≡ (function_in self.entry).params }
+        ensures most { result.left ≤ 16 }
+    {
+        ParamIter {
+            contract: self.contract,
+            at: self.at + contract::PARAMS,
+            left: self.param_count(),
         }
     }
 
@@ -123,5 +153,39 @@ impl<'a> Function<'a> {
             end: self.at + read(s, self.at, 4),
             depth: contract::FUNCTION_DEPTH - 1,
         }
+    }
+}
+
+impl Param {
+    ghost use Rattle.std.specs.Prelude.{◌≡◌};
+    ghost use Rattle.definitions.specs.Fields.{le};
+
+    // The pair at a place.
+    fn new(s: &[u8], at: usize) -> Self
+        requires { at + 4 ≤ length s.now }
+        ensures { (result.name.0 ≡ le 2 s.now at) × (result.ty.0 ≡ le 2 s.now (at + 2)) }
+    {
+        Param {
+            name: Name::new(read_u16(s, at)),
+            ty: Name::new(read_u16(s, at + contract::PARAM_TYPE)),
+        }
+    }
+}
+
+impl Iterator for ParamIter<'_> {
+    ghost use Rattle.std.specs.Iterator.{at_most};
+    ghost use Rattle.contract_nodes.specs.Nodes.{TakesNextParam};
+
+    type Item = Param;
+
+    ghost next_gives = { TakesNextParam };
+
+    ghost remaining = { λ w. at_most w.left };
+
+    fn next(&mut self) -> Option<Param> {
+        self.left = self.left.checked_sub(1)?;
+        let param = Param::new(self.contract.sheet, self.at);
+        self.at += contract::PARAM;
+        Some(param)
     }
 }

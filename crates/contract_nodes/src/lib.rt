@@ -2,12 +2,13 @@
 #![tactic(auto)]
 
 // `Exprs`, `FieldInits` and `Stmts` are no generic list: each reads as a list type of its own in the definitions, and a trait of their elements would need a class,
-// three readings and two laws, for two bodies of ten lines.
+// three readings and two laws, for three bodies of ten lines. `ParamIter` are no records: they have no size of their own, and are counted.
+// A list is a place and an end, or a count, and no slice: the definitions read a sheet at places, and a refusal names them.
 
 pub mod contract; // the contract, its items and what they have in them
 pub mod expr; // expressions
 pub mod stmt; // statements
 
-pub use contract::{Contract, Function, Param, Struct};
+pub use contract::{Contract, Function, Param, ParamIter, Struct};
 pub use expr::{Expr, ExprNode, Exprs, FieldInit, FieldInits};
 pub use stmt::{Stmt, StmtNode, Stmts};

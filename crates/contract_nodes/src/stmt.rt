@@ -27,7 +27,8 @@ pub struct Stmts<'a> {
     pub ghost ready: { StandAll Class.statement contract.sheet.now at end depth },
 }
 
-// What a statement is (`Stmt` of `ast.rs`). An If without a second arm has one without statements.
+// What a statement is (`Stmt` of `ast.rs`). An If without a second arm has one without statements: both walks
+// do the same for the two.
 #[derive(Clone, Copy, Debug)]
 pub enum StmtNode<'a> {
     Let(Name, Expr<'a>),

@@ -1,4 +1,4 @@
-// Where the fields of a contract sheet's records stand.
+// Where the fields of a contract sheet's records stand, and what a contract may have at most.
 use crate::{HEAD, ID};
 
 // A record's name, if it has one, its fields or operator, and what follows it.
@@ -34,3 +34,16 @@ pub const OPERATOR: usize = HEAD;
 pub const MOST_DEPTH: usize = 40;
 
 pub const FUNCTION_DEPTH: usize = MOST_DEPTH - 1;
+
+// Refusal 4: the most that a contract may have of each, a struct of fields, a function of parameters, an Emit or a Call of arguments.
+pub const MOST_STORAGE: usize = 256;
+
+pub const MOST_STRUCTS: usize = 64;
+
+pub const MOST_FUNCTIONS: usize = 64;
+
+pub const MOST_FIELDS: usize = 64;
+
+pub const MOST_PARAMS: usize = 16;
+
+pub const MOST_ARGUMENTS: usize = 16;

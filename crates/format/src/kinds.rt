@@ -2,20 +2,12 @@
 ghost use Rattle.std.specs.Prelude.{◌≡◌};
 ghost use Rattle.format.specs.Kinds as numbers;
 
-use std::error::Error;
-use std::fmt;
+use thiserror::Error;
 
 // A number that is no kind.
-#[derive(Clone, Copy, Debug, PartialEq, Eq)]
+#[derive(Clone, Copy, Debug, PartialEq, Eq, Error)]
+#[error("{0} is the number of no kind")]
 pub struct UnknownKind(pub u16);
-
-impl fmt::Display for UnknownKind {
-    fn fmt<W: fmt::Write>(&self, f: &mut fmt::Formatter<W>) -> fmt::Result {
-        write!(f, "{} is the number of no kind", self.0)
-    }
-}
-
-impl Error for UnknownKind {}
 
 // What a contract consists of, in this order.
 #[derive(Clone, Copy, Debug, PartialEq, Eq)]

@@ -1,7 +1,7 @@
 // The numbers of both sheets' format (docs/FORMAT.md), each said once. Places are counted from a record's first byte.
 #![tactic(auto)]
 
-pub mod contract; // where the fields of a contract sheet's records stand
+pub mod contract; // where the fields of a contract sheet's records stand, and the limits of a contract
 pub mod kinds; // record kinds
 pub mod operators; // the operators of a Binary
 pub mod program; // where the fields of a program sheet's records stand
@@ -14,17 +14,13 @@ pub const ABSENT: u16 = 65535;
 
 pub const HIGHEST_ID: usize = 65534;
 
-// A record's head: its length, four bytes, and its kind, two.
-pub const LENGTH: usize = 0;
-
+// A record's head: its length, four bytes at its first, and its kind, two.
 pub const KIND: usize = 4;
 
 pub const HEAD: usize = 6;
 
-// The bytes of a record's length and of its kind, of a count, of an id or a name, and of a type.
+// The bytes of a record's length, of a count, of an id or a name, and of a type.
 pub const LENGTH_BYTES: usize = 4;
-
-pub const KIND_BYTES: usize = 2;
 
 pub const COUNT: usize = 2;
 

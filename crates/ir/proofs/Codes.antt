@@ -34,7 +34,7 @@ two_and_two t n h =
     let e : (t / 256 + 256 * n) / 256 ≡ n = omega arith in
     rw (a, b, d, e)
 
--- the arm of the type u, whose tag and name are written in sixteen bits
-pub coded : {t u : IrType} (tag name : ℕ) → t ≡ u → (tag ≡ tag_of (as_type u)) × (name ≡ name_of (as_type u)) → tag < 65536 → name < 65536 → Coded t (tag + 65536 * name)
+-- the number of a tag and a name, which are written in sixteen bits
+pub coded : (t : IrType) {tag name : ℕ} → (tag ≡ tag_of (as_type t)) × (name ≡ name_of (as_type t)) → tag < 65536 → name < 65536 → Coded t (tag + 65536 * name)
 unfolding write_type
-coded tag name e (p, q) h k = rw (e, ← p, ← q) (refl, two_and_two tag name h, h, k)
+coded t {tag} {name} (p, q) h k = rw (← p, ← q) (refl, two_and_two tag name h, h, k)

@@ -1,2 +1,3 @@
 pub mod Table
 pub mod Codes
+pub mod Exits

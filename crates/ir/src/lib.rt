@@ -4,6 +4,7 @@
 ghost use Rattle.std.specs.Prelude.{◌≡◌, [], ◌∷◌, ◌/◌, ◌%◌};
 ghost use Rattle.std.proofs.Math.Option.{some};
 ghost use Rattle.definitions.specs.Names.{empty, u64, bool, field, void, poseidon, verify_merkle_proof, msg_sender, msg_nonce, block_number};
+ghost use Rattle.definitions.specs.Ir.{tag_of, name_of};
 ghost use Rattle.definitions.specs.Records.{type_from};
 ghost use Rattle.ir.specs.Types.{as_type, Coded};
 ghost use Rattle.definitions.specs.InstrTable.{kind_row};
@@ -13,7 +14,7 @@ ghost use Rattle.ir.specs.Kinds.{rule_of, effect_of, rule_in, effect_in};
 use format::kinds::Instruction;
 
 // A name. Equal numbers stand for equal strings.
-#[derive(Clone, Copy, Debug, PartialEq, Eq)]
+#[derive(Clone, Copy, Debug, Default, PartialEq, Eq)]
 pub struct Name(pub u16);
 
 // The reserved names.
@@ -65,20 +66,21 @@ pub fn reserved() -> [u16; 10]
 }
 
 // The four kinds of id: one never passes for another.
-#[derive(Clone, Copy, Debug, PartialEq, Eq)]
+#[derive(Clone, Copy, Debug, Default, PartialEq, Eq)]
 pub struct ValueId(pub u16);
 
-#[derive(Clone, Copy, Debug, PartialEq, Eq)]
+#[derive(Clone, Copy, Debug, Default, PartialEq, Eq)]
 pub struct BlockId(pub u16);
 
-#[derive(Clone, Copy, Debug, PartialEq, Eq)]
+#[derive(Clone, Copy, Debug, Default, PartialEq, Eq)]
 pub struct FunctionId(pub u16);
 
-#[derive(Clone, Copy, Debug, PartialEq, Eq)]
+#[derive(Clone, Copy, Debug, Default, PartialEq, Eq)]
 pub struct LocalId(pub u16);
 
-#[derive(Clone, Copy, Debug, PartialEq, Eq)]
+#[derive(Clone, Copy, Debug, Default, PartialEq, Eq)]
 pub enum IrType {
+    #[default]
     U64,
     Bool,
     Field,
@@ -116,6 +118,19 @@ impl IrType {
             _ => IrType::Void,
         }
     }
+
+    // Its tag and its name.
+    pub fn parts(self) -> (u16, u16)
+        ensures { (result.0 ≡ tag_of (as_type self)) × (result.1 ≡ name_of (as_type self)) }
+    {
+        match self {
+            IrType::U64 => (U64_CODE as u16, 0),
+            IrType::Bool => (BOOL_CODE as u16, 0),
+            IrType::Field => (FIELD_CODE as u16, 0),
+            IrType::Struct(name) => (STRUCT_CODE as u16, name.0),
+            IrType::Void => (VOID_CODE as u16, 0),
+        }
+    }
 }
 
 // The code of a type.
@@ -123,13 +138,8 @@ impl From<IrType> for u32 {
     ghost from_gives = { Coded };
 
     fn from(ty: IrType) -> u32 {
-        match ty {
-            IrType::U64 => U64_CODE as u32,
-            IrType::Bool => BOOL_CODE as u32,
-            IrType::Field => FIELD_CODE as u32,
-            IrType::Struct(name) => (STRUCT_CODE + PER_NAME * (name.0 as usize)) as u32,
-            IrType::Void => VOID_CODE as u32,
-        }
+        let (tag, name) = ty.parts();
+        (tag as usize + PER_NAME * (name as usize)) as u32
     }
 }
 
@@ -174,8 +184,9 @@ pub struct KindRow {
     pub effect: Effect,
 }
 
-// One row for each of the 22 kinds, 60 to 81: `kind_row` checks the table over all of its rows at once.
-const KIND_ROWS: [(ResultRule, Effect); 22] = [
+// One row for each of the 22 kinds, 60 to 81: `kind_row` checks the table over all of its rows at once. No constant: of one, each call of `kind_row`
+// copies the table.
+static KIND_ROWS: [(ResultRule, Effect); 22] = [
     (ResultRule::Own, Effect::Pure), // Const
     (ResultRule::Own, Effect::Pure), // Add
     (ResultRule::Own, Effect::Pure), // Sub

@@ -1,20 +1,11 @@
 -- A line at the start of a text with zeros behind it. Assumes nothing.
-use Rattle.std.proofs.Common.{◌≡◌, ℕ, zero, suc, ◌-◌, ◌≤◌, List, [], ◌∷◌, ◌++◌, length, take, drop, refl, sym, ap, ◌∙◌, arith, length-append, length-drop, replicate}
+use Rattle.std.proofs.Common.{◌≡◌, ℕ, ◌-◌, ◌≤◌, List, [], ◌++◌, length, take, drop, sym, ap, ◌∙◌, arith, length-append, length-drop, replicate}
 use Rattle.std.proofs.lemmas.List.{length-replicate}
-use native.Mathlib.Nat.{sub-zero}
 use mathlib.Core.List.{append-nil}
 use lib.Seq.{length-take-le, drop-length}
 use Rattle.definitions.specs.Answers.{padded}
+use Rattle.writer.proofs.Stores.{padded_is}
 use Rattle.line_text.specs.Lined.{Lined}
-
-zeros : (n : ℕ) → padded n [] ≡ replicate n 0
-zeros zero = refl
-zeros (suc n) = ap (λ (l : List ℕ). 0 ∷ l) (zeros n)
-
-padded_is : (n : ℕ) (l : List ℕ) → length l ≤ n → padded n l ≡ l ++ replicate (n - length l) 0
-padded_is n [] h = rw sub-zero (zeros n)
-padded_is zero (x ∷ l) h = absurd (omega arith)
-padded_is (suc n) (x ∷ l) h = let e : suc n - suc (length l) ≡ n - length l = omega arith in rw e (ap (λ (r : List ℕ). x ∷ r) (padded_is n l (omega arith)))
 
 -- m begins with the line
 pub cleared : (line m rest : List ℕ) (r n : ℕ) → take r m ≡ line → length m ≡ n → r ≤ n → rest ≡ replicate (n - r) 0 → Lined n line (take r m ++ rest) r

@@ -13,7 +13,7 @@ const SPACE: u8 = b' ';
 
 const LINE_FEED: u8 = b'\n';
 
-// Puts a number at a place of `out`, in decimal, and gives the place behind it.
+// Puts a number at a place of `out`, in decimal, and gives the place behind it. All of its digits, where `digits::put_digits` puts the last few.
 fn put_number(number: usize, out: &mut [u8], at: usize) -> usize
     requires { at + 20 ≤ length out.old }
     ensures { NumberPut number out.old at out.new result }

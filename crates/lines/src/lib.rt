@@ -27,7 +27,8 @@ pub fn line(numbers: &Numbers, out: &mut [u8; LINE]) -> usize
     put_line(numbers, out)
 }
 
-// Puts the line of the verifier's answer to a program sheet into `out`, with zeros behind it, and gives its length.
+// Puts the line of the verifier's answer to a program sheet into `out`, with zeros behind it, and gives its length. This and the next two are no
+// plainer as one: each is a single call, and each has another answer of the definitions in its promise.
 pub fn verify_line(sheet: &[u8], out: &mut [u8; LINE]) -> usize
     ensures out_after { out.new ≡ padded 128 (line_of (numbers_of (verify_sheet sheet.now))) }
     ensures len { result ≡ length (line_of (numbers_of (verify_sheet sheet.now))) }

@@ -4,7 +4,7 @@ use Rattle.std.specs.Prelude.{None, Some}
 use Rattle.std.proofs.lemmas.Option.{none-some}
 use mathlib.Core.Path.{◌≡◌, refl, sym, ap, ◌∙◌}
 use mathlib.Core.Bool.{true, false, ◌&&◌}
-use mathlib.Core.List.{List, [], ◌++◌, append_assoc}
+use mathlib.Core.List.{List, ◌++◌, append_assoc}
 use Prim.Native.Nat.{ℕ, ◌+◌, ◌≤◌, ◌<◌}
 use native.Mathlib.Omega.{arith}
 use borrow.Author.Tests.{leb-true, leb-false, le-leb}
@@ -16,7 +16,7 @@ use Rattle.definitions.specs.Result.{ok}
 use Rattle.definitions.specs.Records.{write_record}
 use Rattle.definitions.proofs.Results.{by_test}
 use Rattle.lower_layout.specs.Laid.{room_of, Laid}
-use Rattle.lower_layout.proofs.Storing.{laid_some, laid_then, laid_lost}
+use Rattle.lower_layout.proofs.Storing.{room_low, laid_some, laid_then, laid_lost}
 use Rattle.lower.specs.Whole.{program_head, LaidFrom, program_answer, AnsweredWith}
 use Rattle.lower.specs.declared.refusal.Refusal as lowering
 use Rattle.lower.specs.declared.refusal.Refusal.TheVariants as lower_refused
@@ -26,20 +26,10 @@ pub either : {G : Type 0} (a b : ℕ) → (a ≤ b → G) → (b < a → G) → 
 either a b y n = by_test (leb a b) (λ q. y (leb-true a b q)) (λ q. n (leb-false a b q))
 
 -- THE ROOM
-pub room_low : (n : ℕ) → (room_of n ≤ 32768) × (room_of n ≤ n)
-room_low n = by_test (leb n 32768) (λ q. rw q (leb-true n 32768 q, omega arith)) (λ q. rw q (omega arith, omega (arith, leb-false n 32768 q)))
-
 room_in : (n k : ℕ) → k ≤ 32768 → k ≤ n → k ≤ room_of n
 room_in n k a b = by_test (leb n 32768) (λ q. rw q b) (λ q. rw q a)
 
--- ONE BEHIND THE OTHER, from the place behind the head, if that fits
-pub nothing : (before : List ℕ) → 6 ≤ room_of (length before) → Laid [] before 6 before (Some 6)
-nothing before h = record { same_length = refl; fits = λ g. (refl, refl); over = λ g. absurd (omega (arith, g, h)) }
-
-pub no_head : (before : List ℕ) → room_of (length before) < 6 → Laid [] before 6 before None
-no_head before h = record { same_length = refl; fits = λ g. absurd (omega (arith, g, h)); over = λ g. refl }
-
--- what is behind a part that did not fit
+-- ONE BEHIND THE OTHER: what is behind a part that did not fit
 lost_then : {x before mid after : List ℕ} (y : List ℕ) → Laid x before 6 mid None → length after ≡ length mid → Laid (x ++ y) before 6 after None
 lost_then y a same =
     let L = laid_lost y a in

@@ -3,9 +3,7 @@ use Rattle.std.specs.Prelude as code
 use Rattle.std.specs.Prelude.{None, Some, IfSome}
 use mathlib.Core.Path.{◌≡◌, refl, sym, ap, ◌∙◌, subst}
 use mathlib.Core.List.{List, [], ◌∷◌, ◌++◌, append_assoc, append-nil}
-use mathlib.Core.Option.{some}
-use Prim.Native.Nat.{ℕ, zero, suc, ◌+◌, ◌≤◌, ◌<◌}
-use native.Mathlib.Numerals.{add-one}
+use Prim.Native.Nat.{ℕ, suc, ◌≤◌, ◌<◌}
 use native.Mathlib.Omega.{arith}
 use lib.ListN.{length, drop}
 use Rattle.definitions.specs.Result.{Result, err, ok, ◌>>=◌}
@@ -18,11 +16,10 @@ use Rattle.definitions.specs.Records.{Tree, tnil, treesOf, write_tree, write_tre
 use Rattle.definitions.specs.ProgramSheet.{ir_function_tree}
 use Rattle.definitions.specs.ContractSheet.{read_contract}
 use Rattle.contract_nodes.specs.Ready.{Stands, function_at}
-use Rattle.contract_nodes.specs.declared.contract.Function as nodes
 use Rattle.contract_nodes.proofs.Standing.{ready}
 use Rattle.contract_nodes.proofs.Steps.{params_count}
 use Rattle.contract_nodes.proofs.Tops.{FunctionAt, function_at_lem}
-use Rattle.contract_lookup.specs.Answers.{nth_function}
+use Rattle.contract_lookup.specs.declared.items.Functions.{Functions}
 use Rattle.lower_walk.specs.Stmts.{LogCtx}
 use Rattle.lower_walk.specs.Layout.{walk_function}
 use Rattle.lower_walk.proofs.Functions.{Whole, Same, function_same}
@@ -30,7 +27,8 @@ use Rattle.lower_state.specs.declared.refusals.LoweringError.{LoweringError}
 use Rattle.lower_layout.specs.Laid.{room_of, Laid}
 use Rattle.lower_layout.specs.Stored.{BlocksWithin, LaidOrLost}
 use Rattle.lower.specs.Whole.{FunctionPlaced, FunctionsPlaced}
-use Rattle.lower.proofs.Fill.{either, room_low, then_laid}
+use Rattle.lower_layout.proofs.Storing.{room_low}
+use Rattle.lower.proofs.Fill.{either, then_laid}
 
 -- A FUNCTION: what its walk came to, and its record
 module _ (s : List ℕ) (at i : ℕ) (starts stops : List ℕ) (stands : Stands Class.function s at 39) (sizes : (length starts ≡ 256) × (length stops ≡ 256)) where
@@ -76,18 +74,6 @@ module _ (s : List ℕ) (at i : ℕ) (starts stops : List ℕ) (stands : Stands 
     pub not_put : (before : List ℕ) → FunctionPlaced (read_contract s) i (function_at s at) before None before (code.Ok None)
     not_put before = (walked.0, (walked.1.0, (refl, refl)))
 
--- THE FUNCTIONS of the list: the i-th of them, and none behind the last
-there : (fs : List Function) (i : ℕ) {F : Function} → some F ≡ nth_function fs i → drop i fs ≡ F ∷ drop (suc i) fs
-there [] i h = absurd (cc)
-there (f ∷ fs) zero {F} h = let e : F ≡ f = cc in rw e
-there (f ∷ fs) (suc i) h = there fs i h
-
-past : (fs : List Function) (i : ℕ) → length fs ≤ i → drop i fs ≡ []
-past [] zero h = refl
-past [] (suc i) h = refl
-past (f ∷ fs) zero h = absurd (omega arith)
-past (f ∷ fs) (suc i) h = past fs i (omega arith)
-
 -- THE LOOP: the functions before the i-th are done, with the records `gs`
 pub record Along (K : Contract) (before after : List ℕ) (to : code.Option ℕ) (i : ℕ) : Type 0 where
   pub gs : List IrFunction
@@ -109,9 +95,9 @@ regrouped gs g (ok hs) = ap ok (sym (append_assoc gs (g ∷ []) hs))
 
 -- one function is lowered, or refused
 module _ (K : Contract) (i : ℕ) (f : Function) (fs : List Function) (gs : List IrFunction) where
-  lowered : {g : IrFunction} → lower_function K i f ≡ ok g → (lower_functions K i (f ∷ fs) >>= λ hs. ok (gs ++ hs)) ≡ (lower_functions K (i + 1) fs >>= λ hs. ok ((gs ++ (g ∷ [])) ++ hs))
+  lowered : {g : IrFunction} → lower_function K i f ≡ ok g → (lower_functions K i (f ∷ fs) >>= λ hs. ok (gs ++ hs)) ≡ (lower_functions K (suc i) fs >>= λ hs. ok ((gs ++ (g ∷ [])) ++ hs))
   unfolding lower_functions
-  lowered {g} e = rw (e, add-one) (regrouped gs g (lower_functions K (suc i) fs))
+  lowered {g} e = rw e (regrouped gs g (lower_functions K (suc i) fs))
 
   not_lowered : {x : lowering.LoweringError} → lower_function K i f ≡ err x → (lower_functions K i (f ∷ fs) >>= λ hs. ok (gs ++ hs)) ≡ err x
   unfolding lower_functions
@@ -125,26 +111,26 @@ module _ {K : Contract} {before after : List ℕ} {to : code.Option ℕ} {i : �
   onward : {fs : List Function} → drop i K.functions ≡ fs → lower_functions K 0 K.functions ≡ (lower_functions K i fs >>= λ hs. ok (A.gs ++ hs))
   onward e = A.left ∙ ap (λ (fs : List Function). lower_functions K i fs >>= λ hs. ok (A.gs ++ hs)) e
 
-  pub ends : length K.functions ≤ i → FunctionsPlaced K before after (code.Ok to)
+  pub ends : drop i K.functions ≡ [] → FunctionsPlaced K before after (code.Ok to)
   unfolding lower_functions
-  ends h = (A.gs, (onward (past K.functions i h) ∙ ap ok (append-nil A.gs), A.laid))
+  ends h = (A.gs, (onward h ∙ ap ok (append-nil A.gs), A.laid))
 
 -- the i-th function, that of a sheet which is this one, is placed
-module _ {s t : List ℕ} {before after : List ℕ} {to : code.Option ℕ} {i : ℕ} (A : Along (read_contract s) before after to i) (same_sheet : t ≡ s) {F : Function} (h : some F ≡ nth_function (read_contract s).functions i) where
-  pub one_more : (later : List ℕ) (r : code.Option ℕ) → FunctionPlaced (read_contract t) i F after to later (code.Ok r) → Along (read_contract s) before later r (i + 1)
+module _ {s t : List ℕ} {before after : List ℕ} {to : code.Option ℕ} {i : ℕ} (A : Along (read_contract s) before after to i) (same_sheet : t ≡ s) {F : Function} (h : drop i (read_contract s).functions ≡ F ∷ drop (suc i) (read_contract s).functions) where
+  pub one_more : (later : List ℕ) (r : code.Option ℕ) → FunctionPlaced (read_contract t) i F after to later (code.Ok r) → Along (read_contract s) before later r (suc i)
   one_more later r p =
       let q = subst (λ (s : List ℕ). FunctionPlaced (read_contract s) i F after to later (code.Ok r)) same_sheet p in
       record {
         gs = A.gs ++ (q.0 ∷ []);
-        left = onward A (there (read_contract s).functions i h) ∙ (lowered (read_contract s) i F (drop (suc i) (read_contract s).functions) A.gs q.1.0 ∙ rw add-one);
+        left = onward A h ∙ lowered (read_contract s) i F (drop (suc i) (read_contract s).functions) A.gs q.1.0;
         laid = rw (trees_then ir_function_tree A.gs q.0) (then_laid (write_tree (ir_function_tree q.0)) A.laid q.1.1);
       }
 
   pub refuses : (later : List ℕ) (x : LoweringError) → FunctionPlaced (read_contract t) i F after to later (code.Err x) → FunctionsPlaced (read_contract s) before later (code.Err x)
   refuses later x p =
       let q = subst (λ (s : List ℕ). FunctionPlaced (read_contract s) i F after to later (code.Err x)) same_sheet p in
-      (onward A (there (read_contract s).functions i h) ∙ not_lowered (read_contract s) i F (drop (suc i) (read_contract s).functions) A.gs q.0, q.1 ∙ A.laid.same_length)
+      (onward A h ∙ not_lowered (read_contract s) i F (drop (suc i) (read_contract s).functions) A.gs q.0, q.1 ∙ A.laid.same_length)
 
--- what was found is of the same sheet
-pub of_sheet : (s : List ℕ) {o : code.Option nodes.Function} {f : nodes.Function} → o ≡ Some f → IfSome o (λ f. f.contract.sheet.now ≡ s) → f.contract.sheet.now ≡ s
-of_sheet s q h = subst (λ (o : code.Option nodes.Function). IfSome o (λ f. f.contract.sheet.now ≡ s)) q h
+-- the functions that are walked are those of the sheet
+pub of_sheet : {F G : Functions} → F ≡ G → F.contract.sheet.now ≡ G.contract.sheet.now
+of_sheet e = rw e refl

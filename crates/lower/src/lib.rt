@@ -2,28 +2,28 @@
 #![tactic(auto)]
 
 ghost use Rattle.std.specs.Prelude.{◌≡◌, ℕ, ◌≤◌, length, take, IfOk};
-ghost use Rattle.std.proofs.lemmas.List.Edits.{sets};
 ghost use Rattle.definitions.specs.Answers.{lower_sheet, length_of, output_of};
 ghost use Rattle.definitions.specs.Demand3.{Demand3Of};
 ghost use Rattle.contract_nodes.specs.Nodes.{contract_in, function_in};
-ghost use Rattle.lower.specs.Whole.{FunctionPlaced, FunctionsPlaced, program_head, answer_of, lower_rest, AnsweredWith, written_by};
+ghost use Rattle.lower.specs.Whole.{FunctionPlaced, FunctionsPlaced, answer_of, lower_rest, AnsweredWith, written_by};
 
 use contract_lookup::items::Functions;
 use contract_nodes::{Contract, Function};
+use format::HEAD;
 use format::kinds::Kind;
-use format::{HEAD, KIND};
 use ir::FunctionId;
 use lower_functions::lower_function;
-use lower_layout::{fits, lay_function};
+use lower_layout::{lay_function, place_behind, write_head};
 use lower_name_table::lay_names;
 use lower_state::{FnCtx, LoweringError};
-use writer::{clear, write};
+use writer::clear;
 
 pub mod refusal; // why there is no program sheet
 
 pub use refusal::Refusal;
 
-// A function: it is walked, and then laid down at `to`, if all before it fitted. Gives the place behind it.
+// A function: it is walked, and then laid down at `to`, if all before it fitted. Gives the place behind it. The function and its id are two: a node
+// knows its place, and not its position.
 fn place_function(
     ctx: &mut FnCtx,
     f: Function,
@@ -45,21 +45,11 @@ fn place_functions(functions: &Functions, out: &mut [u8]) -> Result<Option<usize
     ensures { FunctionsPlaced (contract_in functions.now.contract) out.old out.new result }
 {
     let mut ctx = FnCtx::new(FunctionId(0));
-    let mut to = if fits(out, HEAD, 0) { Some(HEAD) } else { None };
-    for i in 0..functions.len() {
-        let f = functions.get(i).unwrap();
-        to = place_function(&mut ctx, f, FunctionId(i as u16), out, to)?;
+    let mut to = place_behind(out, HEAD, 0);
+    for (id, f) in functions.iter() {
+        to = place_function(&mut ctx, f, id, out, to)?;
     }
     Ok(to)
-}
-
-// The program's head, once its length is known.
-fn write_head(out: &mut [u8], end: usize)
-    requires { 6 ≤ length out.old }
-    ensures { out.new ≡ sets out.old 0 (program_head end) }
-{
-    write(out, 0, 4, end);
-    write(out, KIND, 2, u16::from(Kind::Program) as usize);
 }
 
 // A contract sheet that passed its check.
@@ -69,7 +59,7 @@ fn lower_contract(contract: Contract, out: &mut [u8]) -> Result<usize, Refusal>
     let functions = Functions::new(contract);
     let to = place_functions(&functions, out)?.ok_or(Refusal::NoRoom)?;
     let end = lay_names(&functions, out, to).ok_or(Refusal::NoRoom)?;
-    write_head(out, end);
+    write_head(out, 0, end, Kind::Program);
     Ok(end)
 }
 

@@ -4,16 +4,19 @@ ghost use Rattle.lower.specs.declared.refusal.Refusal.TheVariants as refusal;
 
 use lower_state::LoweringError;
 use sheet::ContractError;
-use std::error::Error;
-use std::fmt;
+use thiserror::Error;
 
-#[derive(Clone, Copy, Debug, PartialEq, Eq)]
+#[derive(Clone, Copy, Debug, PartialEq, Eq, Error)]
 pub enum Refusal {
+    #[error(transparent)]
     Contract(ContractError),
+    #[error(transparent)]
     Lowering(LoweringError),
+    #[error("the program sheet does not fit the output")]
     NoRoom,
 }
 
+// By hand: the derive's `From` has no `from_gives`, so nothing would be known of the error that `?` hands on.
 impl From<ContractError> for Refusal {
     ghost from_gives = { λ e r. r ≡ refusal.Contract e };
 
@@ -29,15 +32,3 @@ impl From<LoweringError> for Refusal {
         Refusal::Lowering(e)
     }
 }
-
-impl fmt::Display for Refusal {
-    fn fmt<W: fmt::Write>(&self, f: &mut fmt::Formatter<W>) -> fmt::Result {
-        match self {
-            Refusal::Contract(e) => write!(f, "{e}"),
-            Refusal::Lowering(e) => write!(f, "{e}"),
-            Refusal::NoRoom => write!(f, "the program sheet does not fit the output"),
-        }
-    }
-}
-
-impl Error for Refusal {}

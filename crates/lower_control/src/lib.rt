@@ -4,6 +4,7 @@
 ghost use Rattle.std.specs.Prelude.{◌≡◌, ◌<◌, IfErr};
 ghost use Rattle.contract_nodes.specs.Nodes.{contract_in, expr_in};
 ghost use Rattle.lower_walk.specs.Stmts.{enter_if, enter_while, two_locals, for_locals, for_header, for_blocks, for_next, for_step, switch_to};
+ghost use Rattle.lower_walk.specs.Grown.{Grown};
 ghost use Rattle.lower_state.specs.Answers.{with_state};
 ghost use Rattle.lower_state.specs.State.{blocks_of};
 ghost use Rattle.lower_control.specs.Bounds.{bounds_of};
@@ -26,7 +27,8 @@ pub struct Bounds {
 
 // If: the condition, the blocks and the branch; the then block is open.
 pub fn enter_if(ctx: &mut FnCtx, scopes: &Scopes, condition: Expr) -> Result<Blocks, LoweringError>
-    ensures { with_state blocks_of ctx.new result ≡ enter_if (contract_in condition.entry.contract) scopes.now.held (expr_in condition.entry) ctx.old }
+    ensures is { with_state blocks_of ctx.new result ≡ enter_if (contract_in condition.entry.contract) scopes.now.held (expr_in condition.entry) ctx.old }
+    ensures grown { Grown ctx.old ctx.new }
 {
     let (value, _) = lower_expr_value(ctx, scopes, condition)?;
     let blocks = ctx.three_blocks()?;
@@ -41,7 +43,8 @@ pub fn enter_while(
     scopes: &Scopes,
     condition: Expr,
 ) -> Result<Blocks, LoweringError>
-    ensures { with_state blocks_of ctx.new result ≡ enter_while (contract_in condition.entry.contract) scopes.now.held (expr_in condition.entry) ctx.old }
+    ensures is { with_state blocks_of ctx.new result ≡ enter_while (contract_in condition.entry.contract) scopes.now.held (expr_in condition.entry) ctx.old }
+    ensures grown { Grown ctx.old ctx.new }
 {
     let blocks = ctx.three_blocks()?;
     jump(ctx, blocks.first);
@@ -54,7 +57,8 @@ pub fn enter_while(
 
 // The two locals of a For, from the values of its bounds.
 fn two_locals(ctx: &mut FnCtx, start: ValueId, end: ValueId) -> Result<Bounds, LoweringError>
-    ensures { with_state bounds_of ctx.new result ≡ two_locals start.0 end.0 ctx.old }
+    ensures is { with_state bounds_of ctx.new result ≡ two_locals start.0 end.0 ctx.old }
+    ensures grown { Grown ctx.old ctx.new }
 {
     let var = init_local(ctx, IrType::U64, start)?;
     let end = init_local(ctx, IrType::U64, end)?;
@@ -69,7 +73,8 @@ pub fn for_locals(
     end: Expr,
 ) -> Result<Bounds, LoweringError>
     requires { end.contract.sheet.now ≡ start.contract.sheet.now }
-    ensures { with_state bounds_of ctx.new result ≡ for_locals (contract_in start.entry.contract) scopes.now.held (expr_in start.entry) (expr_in end.entry) ctx.old }
+    ensures is { with_state bounds_of ctx.new result ≡ for_locals (contract_in start.entry.contract) scopes.now.held (expr_in start.entry) (expr_in end.entry) ctx.old }
+    ensures grown { Grown ctx.old ctx.new }
 {
     let (first, _) = lower_expr_value(ctx, scopes, start)?;
     let (last, _) = lower_expr_value(ctx, scopes, end)?;

@@ -1,5 +1,5 @@
 -- What taking the next value, block or local does to the counters. Assumes nothing: these are definitions.
-use Rattle.std.specs.Prelude.{ℕ, suc, ◌+◌, ◌%◌}
+use Rattle.std.specs.Prelude.{suc, ◌+◌, ◌%◌}
 use Rattle.lower_counters.specs.declared.Counters.{Counters}
 
 -- values wrap; blocks and locals must not

@@ -6,7 +6,7 @@ ghost use Rattle.lower_counters.specs.Count.{value_taken, block_taken, local_tak
 
 use ir::{BlockId, LocalId, ValueId};
 
-// The next value, block and local, before the first of them is taken: all 0.
+// The numbers of the next value, block and local.
 #[derive(Clone, Copy, Debug, PartialEq, Eq)]
 pub struct Counters {
     pub value: u16,
@@ -15,6 +15,13 @@ pub struct Counters {
 }
 
 impl Counters {
+    pub const START: Counters = Counters {
+        value: 0,
+        block: 0,
+        local: 0,
+    };
+
+    // A function for each of three id types, which never pass for one another.
     pub fn next_value(&mut self) -> ValueId
         ensures number { result.0 ≡ self.old.value }
         ensures counted { self.new ≡ value_taken self.old }

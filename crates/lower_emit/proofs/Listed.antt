@@ -2,16 +2,11 @@
 use mathlib.Core.Path.{◌≡◌, refl}
 use mathlib.Core.List.{List, [], ◌∷◌, ◌++◌, map, append-nil}
 use Prim.Native.Nat.{ℕ, ◌+◌, ◌*◌}
-use native.Mathlib.Omega.{arith}
 use lib.ListN.{length, length-append}
 use Rattle.definitions.specs.Fields.{bytes}
 use Rattle.definitions.specs.Records.{small, FieldValue, rest, node, tnil, write_item, write_items, write_value, write_values, write_record, write_tree, write_trees}
 use Rattle.lower_state.specs.Bytes.{id_bytes}
-
-length_ids : (l : List ℕ) → length (id_bytes l) ≡ 2 * length l
-unfolding id_bytes bytes
-length_ids [] = refl
-length_ids (i ∷ is) = omega (arith, length_ids is)
+use Rattle.lower_state.proofs.Ids.{length_ids}
 
 items : (l : List ℕ) → write_items (map small l) ≡ id_bytes l
 unfolding id_bytes write_items write_item

@@ -1,27 +1,23 @@
 // The values of a call's or an event's arguments.
+use arrayvec::ArrayVec;
+use format::contract::MOST_ARGUMENTS;
 use ir::ValueId;
 use std::marker::Model;
 
-// How many there may be.
-const MOST: usize = 16;
-
+// A list of its own, so that a clause sees the values' numbers.
 #[derive(Drop)]
 pub struct Args {
-    ids: [ValueId; MOST],
-    count: usize,
+    ids: ArrayVec<ValueId, MOST_ARGUMENTS>,
 }
 
-// A clause sees the values' numbers.
 impl Model for Args {
     ghost use Rattle.std.specs.Prelude.{List, ℕ};
 
     ghost Value = { List ℕ };
 
-    ghost use Rattle.lower_emit.specs.Args.{args_in, CountFits};
+    ghost use Rattle.lower_emit.specs.Args.{args_in};
 
     ghost view = { args_in };
-
-    ghost invariant = { CountFits };
 }
 
 impl Args {
@@ -34,8 +30,7 @@ impl Args {
         ensures { result ≡ [] }
     {
         Args {
-            ids: [ValueId(0); MOST],
-            count: 0,
+            ids: ArrayVec::new(),
         }
     }
 
@@ -43,15 +38,14 @@ impl Args {
         requires { length self.old < 16 }
         ensures { self.new ≡ self.old ++ (id.0 ∷ []) }
     {
-        self.ids[self.count] = id;
-        self.count += 1;
+        self.ids.push(id);
     }
 
     pub fn as_slice(&self) -> &[ValueId]
         ensures is { ids_of result.now ≡ self.now }
         ensures most { length result.now ≤ 16 }
     {
-        &self.ids[..self.count]
+        self.ids.as_slice()
     }
 
     // Both, if there are two.

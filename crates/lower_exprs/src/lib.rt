@@ -55,7 +55,9 @@ pub fn lower_expr_value(ctx: &mut FnCtx, scopes: &Scopes, e: Expr) -> Result<Val
     lower_expr(ctx, scopes, e)?.ok_or(LoweringError::VoidAsValue)
 }
 
-// A call: what is called, then its arguments, then the call itself. A read of the context ignores its arguments.
+// A call: what is called, then its arguments, then the call itself. `finish_call` matches the callee too, but a read of the context ignores its
+// arguments, as in the Rust: they are not lowered. The loop over arguments stands in `lower_simple::lower_emit` too: the form of document 01 is a
+// cycle of three functions, and a function for the loop would be a fourth.
 #[cycle(exprs)]
 fn lower_call(
     ctx: &mut FnCtx,

@@ -1,15 +1,17 @@
-// Terminators of blocks, and locals that are written at once.
+// Terminators of blocks, and locals that are written at once. A function for each terminator, where the Rust has `set_terminator` of an enum: the enum
+// would be made here only to be taken apart again.
 #![tactic(auto)]
 
 ghost use Rattle.std.specs.Prelude.{◌≡◌, ◌<◌, IfErr};
-ghost use Rattle.std.proofs.Math.Option.{none, some};
+ghost use Rattle.std.proofs.Math.Option.{none};
 ghost use Rattle.definitions.specs.Ir.{Terminator};
+ghost use Rattle.ir.specs.Answers.{option_of};
 ghost use Rattle.ir.specs.Types.{as_type};
 ghost use Rattle.lower_walk.specs.Stmts.{terminate, terminate_if_open, next_arm, init_local};
 ghost use Rattle.lower_state.specs.Answers.{with_state};
 
 use ir::{BlockId, IrType, LocalId, ValueId};
-use lower_emit::{emit_branch, emit_jump, emit_return, emit_return_none, emit_write_local};
+use lower_emit::{emit_branch, emit_jump, emit_return, emit_write_local};
 use lower_state::{FnCtx, LoweringError};
 
 // `set_terminator` of a Jump.
@@ -30,21 +32,12 @@ pub fn branch(ctx: &mut FnCtx, condition: ValueId, yes: BlockId, no: BlockId)
     ctx.close();
 }
 
-// `set_terminator` of a Return of a value.
+// `set_terminator` of a Return.
 #[tactic(auto, unfolding(lower_walk::specs::Stmts::terminate))]
-pub fn return_value(ctx: &mut FnCtx, value: ValueId)
-    ensures { ctx.new ≡ terminate (Terminator.Return (some value.0)) ctx.old }
+pub fn return_value(ctx: &mut FnCtx, value: Option<ValueId>)
+    ensures { ctx.new ≡ terminate (Terminator.Return (option_of (λ v. v.0) value)) ctx.old }
 {
     emit_return(ctx, value);
-    ctx.close();
-}
-
-// `set_terminator` of a Return without a value.
-#[tactic(auto, unfolding(lower_walk::specs::Stmts::terminate))]
-pub fn return_none(ctx: &mut FnCtx)
-    ensures { ctx.new ≡ terminate (Terminator.Return none) ctx.old }
-{
-    emit_return_none(ctx);
     ctx.close();
 }
 
@@ -54,22 +47,33 @@ pub fn return_if_open(ctx: &mut FnCtx)
     ensures { ctx.new ≡ terminate_if_open (Terminator.Return none) ctx.old }
 {
     if !ctx.is_ended() {
-        return_none(ctx);
+        return_value(ctx, None);
     }
 }
 
-// The end of an arm or a body, which jumps to `target` if it is open; then the block `next`.
-pub fn next_arm(ctx: &mut FnCtx, target: BlockId, next: BlockId)
-    requires { next.0 < ctx.old.next_block }
-    ensures { ctx.new ≡ next_arm target.0 next.0 ctx.old }
+// A Jump, if the block is open.
+#[tactic(auto, unfolding(lower_walk::specs::Stmts::terminate, lower_walk::specs::Stmts::terminate_if_open))]
+fn jump_if_open(ctx: &mut FnCtx, target: BlockId)
+    ensures is { ctx.new ≡ terminate_if_open (Terminator.Jump target.0) ctx.old }
+    ensures same_blocks { ctx.new.next_block ≡ ctx.old.next_block }
 {
     if !ctx.is_ended() {
         jump(ctx, target);
     }
+}
+
+// The end of an arm or a body, which jumps to `target` if it is open; then the block `next`.
+#[tactic(auto, unfolding(lower_walk::specs::Stmts::next_arm))]
+pub fn next_arm(ctx: &mut FnCtx, target: BlockId, next: BlockId)
+    requires { next.0 < ctx.old.next_block }
+    ensures { ctx.new ≡ next_arm target.0 next.0 ctx.old }
+{
+    jump_if_open(ctx, target);
     ctx.switch_to(next);
 }
 
 // A new local to which a value is written at once.
+#[tactic(auto, unfolding(lower_walk::specs::Stmts::init_local))]
 pub fn init_local(ctx: &mut FnCtx, ty: IrType, value: ValueId) -> Result<LocalId, LoweringError>
     ensures is { with_state (λ l. l.0) ctx.new result ≡ init_local (as_type ty) value.0 ctx.old }
     ensures refused { IfErr result (λ e. ctx.new ≡ ctx.old) }

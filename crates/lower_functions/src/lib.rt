@@ -3,7 +3,8 @@
 
 ghost use Rattle.std.specs.Prelude.{◌≡◌, ◌*◌, [], length};
 ghost use Rattle.contract_nodes.specs.Nodes.{contract_in, function_in};
-ghost use Rattle.lower_walk.specs.Layout.{walk_params, walk_function};
+ghost use Rattle.lower_walk.specs.Grown.{Grown};
+ghost use Rattle.lower_walk.specs.Layout.{new_ctx, walk_params, walk_function};
 ghost use Rattle.lower_state.specs.Answers.{done_after};
 ghost use Rattle.lower_simple.specs.Stated.{stated};
 
@@ -20,9 +21,9 @@ fn lower_params(ctx: &mut FnCtx, scopes: &mut Scopes, f: Function) -> Result<(),
     requires { scopes.old ≡ record { held = []; scope = 0 } }
     ensures is { stated ctx.new scopes.new result ≡ walk_params (function_in f.entry).params [] ctx.old }
     ensures same_scope { scopes.new.scope ≡ 0 }
+    ensures grown { Grown ctx.old ctx.new }
 {
-    for i in 0..f.param_count() {
-        let param = f.param(i);
+    for param in f.params() {
         let ty = parse_ir_type(param.ty);
         let value = ctx.next_value();
         let local = init_local(ctx, ty, value)?;
@@ -34,6 +35,7 @@ fn lower_params(ctx: &mut FnCtx, scopes: &mut Scopes, f: Function) -> Result<(),
 // A function, into the log.
 pub fn lower_function(ctx: &mut FnCtx, f: Function, id: FunctionId) -> Result<(), LoweringError>
     ensures is { done_after ctx.new result ≡ walk_function (contract_in f.entry.contract) id.0 (function_in f.entry) ctx.old.starts ctx.old.stops }
+    ensures grown { Grown (new_ctx id.0 ctx.old.starts ctx.old.stops) ctx.new }
     ensures sizes { (length ctx.old.starts ≡ 256) × (length ctx.old.stops ≡ 256) }
 {
     ctx.begin(id);

@@ -16,7 +16,7 @@ use Rattle.definitions.specs.Fields.{bytes}
 use Rattle.definitions.proofs.Fields.{length_bytes}
 use Rattle.definitions.proofs.Results.{by_test}
 use Rattle.writer.proofs.Stores.{sets_append}
-use Rattle.lower_layout.specs.Laid.{room_of, Laid}
+use Rattle.lower_layout.specs.Laid.{room_of, behind, Laid}
 use Rattle.lower_layout.specs.Stored.{Put}
 
 infixl 5 ◌then◌
@@ -28,6 +28,10 @@ pub ◌then◌ : {x y l m n : List ℕ} {a b c : ℕ} → Put x l a m b → Put 
 -- a number was written
 pub wrote : {l m : List ℕ} {a b : ℕ} (n v : ℕ) → m ≡ sets l a (bytes n v) → b ≡ a + n → Put (bytes n v) l a m b
 wrote n v e h = record { is = e; past = rw length_bytes h }
+
+-- a record's head was written
+pub wrote_head : {l m : List ℕ} {a b : ℕ} (size kind : ℕ) → m ≡ sets l a (bytes 4 size ++ bytes 2 kind) → b ≡ a + 6 → Put (bytes 4 size ++ bytes 2 kind) l a m b
+wrote_head size kind e h = record { is = e; past = rw (length-append, length_bytes, length_bytes) h }
 
 pub put_as : {x y l m : List ℕ} {a b : ℕ} → x ≡ y → Put x l a m b → Put y l a m b
 put_as {x} {y} {l} {m} {a} {b} e p = rw (← e) p
@@ -69,15 +73,32 @@ pub run_room : {l m : List ℕ} {a b : ℕ} (f : ℕ → List ℕ) (k n : ℕ) �
 run_room {l} {m} {a} {b} f k n p h g = omega (arith, p.past, put_length p, run_least f k n h)
 
 -- THE ROOM
-pub room_least : (n : ℕ) → room_of n ≤ n
-room_least n = by_test (leb n 32768) (λ q. rw q (omega arith)) (λ q. rw q (omega (arith, leb-false n 32768 q)))
+pub room_low : (n : ℕ) → (room_of n ≤ 32768) × (room_of n ≤ n)
+room_low n = by_test (leb n 32768) (λ q. rw q (leb-true n 32768 q, omega arith)) (λ q. rw q (omega arith, omega (arith, leb-false n 32768 q)))
+
+-- so many bytes may be written, or they are too many
+pub behind_some : (n to size : ℕ) {end : ℕ} → Some end ≡ behind n to size → (to + size ≤ room_of n) × (end ≡ to + size)
+behind_some n to size {end} e = by_test (leb (to + size) (room_of n)) (λ q. (leb-true _ _ q, same_Some _ _ (rw q at e))) (λ q. absurd (none-some end (sym (rw q at e))))
+
+behind_none : (n to size : ℕ) → None ≡ behind n to size → room_of n < to + size
+behind_none n to size e = by_test (leb (to + size) (room_of n)) (λ q. absurd (none-some (to + size) (rw q at e))) (λ q. leb-false _ _ q)
+
+pub behind_in : (l : List ℕ) (a size : ℕ) {end : ℕ} → Some end ≡ behind (length l) a size → a + size ≤ length l
+behind_in l a size e = omega (arith, (behind_some (length l) a size e).0, (room_low (length l)).1)
 
 -- RECORDS that fit, or not
-pub laid_none : (x l : List ℕ) (a : ℕ) → room_of (length l) < a + length x → Laid x l a l None
-laid_none x l a h = record { same_length = refl; fits = λ g. absurd (omega (arith, g, h)); over = λ g. refl }
+pub laid_none : {x l : List ℕ} {a size : ℕ} → length x ≡ size → None ≡ behind (length l) a size → Laid x l a l None
+laid_none {x} {l} {a} {size} z e = let h = behind_none (length l) a size e in record { same_length = refl; fits = λ g. absurd (omega (arith, g, h, z)); over = λ g. refl }
 
-pub laid_put : {x l m : List ℕ} {a b : ℕ} → Put x l a m b → a + length x ≤ room_of (length l) → Laid x l a m (Some b)
-laid_put {x} {l} {m} {a} {b} p h = record { same_length = put_length p; fits = λ g. (p.is, ap (λ (r : ℕ). Some r) p.past); over = λ g. absurd (omega arith) }
+pub laid_put : {x l m : List ℕ} {a b size end : ℕ} → length x ≡ size → Some end ≡ behind (length l) a size → Put x l a m b → Laid x l a m (Some end)
+laid_put {x} {l} {m} {a} {b} {size} {end} z e p =
+    let h = behind_some (length l) a size e in
+    record { same_length = put_length p; fits = λ g. (p.is, ap (λ (r : ℕ). Some r) (omega (arith, h.1, z))); over = λ g. absurd (omega (arith, g, h.0, z)) }
+
+-- nothing is laid down yet, if the place may be written
+pub laid_start : {l : List ℕ} {a : ℕ} {r : Option ℕ} → r ≡ behind (length l) a 0 → Laid [] l a l r
+laid_start {r = None} e = laid_none refl e
+laid_start {r = Some end} e = laid_put refl e (record { is = refl; past = refl })
 
 -- what was laid down fits
 pub laid_some : {x l m : List ℕ} {a b : ℕ} → Laid x l a m (Some b) → Put x l a m b × (a + length x ≤ room_of (length l))

@@ -7,6 +7,10 @@ use Rattle.definitions.specs.Records.{pick}
 abbrev pub room_of : ℕ → ℕ
 room_of n = pick (leb n 32768) n 32768
 
+-- the place behind so many bytes from `to` on, if they may be written to an output of n bytes
+abbrev pub behind : (n to size : ℕ) → Option ℕ
+behind n to size = pick (leb (to + size) (room_of n)) (Some (to + size)) None
+
 -- x was written at `to`, and r is the place after it; None, if it does not fit
 pub record Laid (x before : List ℕ) (to : ℕ) (after : List ℕ) (r : Option ℕ) : Type 0 where
   pub same_length : length after ≡ length before

@@ -1,14 +1,18 @@
 // The program sheet from the log: a counting pass, then each function's record at its known place, its blocks in the order of their ids.
 #![tactic(auto)]
 
-ghost use Rattle.std.specs.Prelude.{◌≡◌, map, ◌++◌, ◌+◌, ◌*◌, ◌≤◌, leb, length};
+// `out` and `to` stay two parameters: a struct of both would have a `&mut` in it, and each promise would have to say that it is the same memory still.
+
+ghost use Rattle.std.specs.Prelude.{◌≡◌, map, ◌++◌, ◌+◌, ◌*◌, ◌≤◌, length};
+ghost use Rattle.std.proofs.lemmas.List.Edits.{sets};
 ghost use Rattle.definitions.specs.Fields.{bytes};
 ghost use Rattle.definitions.specs.Records.{ty, group, write_record, write_value};
 ghost use Rattle.definitions.specs.ProgramSheet.{param_item};
+ghost use Rattle.format.specs.Kinds.{number_of};
 ghost use Rattle.ir.specs.Types.{as_type};
 ghost use Rattle.contract_nodes.specs.Nodes.{function_in};
 ghost use Rattle.lower_walk.specs.Layout.{param_values};
-ghost use Rattle.lower_layout.specs.Laid.{room_of};
+ghost use Rattle.lower_layout.specs.Laid.{behind};
 ghost use Rattle.lower_layout.specs.Stored.{Put, BlocksWithin, Within, blocks_part, head_of, head_size, LaidOrLost};
 
 use contract_lookup::types::{own_return_type, parse_ir_type};
@@ -19,12 +23,21 @@ use ir::{BlockId, FunctionId, IrType};
 use lower_state::FnCtx;
 use writer::{copy, write};
 
-// Whether so many bytes may be written from a place on.
-pub fn fits(out: &[u8], to: usize, size: usize) -> bool
-    ensures { result ≡ leb (to + size) (room_of (length out.now)) }
+// The place behind so many bytes from `to` on, if they may be written.
+pub fn place_behind(out: &[u8], to: usize, size: usize) -> Option<usize>
+    ensures { result ≡ behind (length out.now) to size }
 {
     let room = out.len().min(MOST);
-    to <= room && size <= room - to
+    to.checked_add(size).filter(|end| *end <= room)
+}
+
+// A record's head: its length and its kind.
+pub fn write_head(out: &mut [u8], to: usize, size: usize, kind: Kind)
+    requires { to + 6 ≤ length out.old }
+    ensures { out.new ≡ sets out.old to (bytes 4 size ++ bytes 2 (number_of kind)) }
+{
+    write(out, to, 4, size);
+    write(out, to + KIND, 2, u16::from(kind) as usize);
 }
 
 // The bytes of all blocks.
@@ -46,25 +59,23 @@ fn lay_block(block: BlockId, records: &[u8], out: &mut [u8], to: usize) -> usize
     ensures { Put (write_record 53 (bytes 2 block.0 ++ records.now)) out.old to out.new result }
 {
     let n = records.len();
-    write(out, to, 4, program::RECORDS + n);
-    write(out, to + KIND, 2, u16::from(Kind::BasicBlock) as usize);
+    write_head(out, to, program::RECORDS + n, Kind::BasicBlock);
     write(out, to + program::BLOCK_ID, 2, block.0 as usize);
     copy(records, 0, n, out, to + program::RECORDS);
     to + program::RECORDS + n
 }
 
 // All blocks.
-fn lay_blocks(ctx: &FnCtx, out: &mut [u8], to: usize) -> usize
+fn lay_blocks(ctx: &FnCtx, out: &mut [u8], to: usize)
     requires within { Within ctx.now }
     requires room { to + length (blocks_part ctx.now) ≤ length out.old }
-    ensures { Put (blocks_part ctx.now) out.old to out.new result }
+    ensures { out.new ≡ sets out.old to (blocks_part ctx.now) }
 {
     let mut at = to;
     for k in 0..ctx.blocks() {
         let block = BlockId(k);
         at = lay_block(block, ctx.records(block), out, at);
     }
-    at
 }
 
 // The parameters of a function: values 0, 1, 2, .. with their types, behind their count.
@@ -75,9 +86,9 @@ fn lay_params(f: Function, out: &mut [u8], to: usize) -> usize
     let n = f.param_count();
     write(out, to, 2, n);
     let first = to + 2;
-    for i in 0..n {
+    for (i, param) in f.params().enumerate() {
         let place = first + program::PARAM * i;
-        let ty = parse_ir_type(f.param(i).ty);
+        let ty = parse_ir_type(param.ty);
         write(out, place, 2, i);
         write(out, place + ID, 4, u32::from(ty) as usize);
     }
@@ -89,13 +100,13 @@ fn lay_locals(locals: &[IrType], out: &mut [u8], to: usize) -> usize
     requires { to + (2 + 4 * length locals.now) ≤ length out.old }
     ensures { Put (write_value (group (map ty (map as_type locals.now)))) out.old to out.new result }
 {
-    write(out, to, 2, locals.len());
-    let mut place = to + 2;
-    for ty in locals {
-        write(out, place, 4, u32::from(*ty) as usize);
-        place += TYPE;
+    let n = locals.len();
+    write(out, to, 2, n);
+    let first = to + 2;
+    for (i, ty) in locals.iter().enumerate() {
+        write(out, first + TYPE * i, 4, u32::from(*ty) as usize);
     }
-    place
+    first + TYPE * n
 }
 
 // The start of a function's record: its length and kind, its id, name and return type, its parameters and locals.
@@ -110,14 +121,23 @@ fn lay_head(
     requires { to + head_size (function_in f) (length locals.now) ≤ length out.old }
     ensures { Put (head_of size id.0 (function_in f.entry) (map as_type locals.now)) out.old to out.new result }
 {
-    write(out, to, 4, size);
-    write(out, to + KIND, 2, u16::from(Kind::IrFunction) as usize);
+    write_head(out, to, size, Kind::IrFunction);
     write(out, to + program::FUNCTION_ID, 2, id.0 as usize);
     write(out, to + program::FUNCTION_NAME, 2, f.name().0 as usize);
     let ret = own_return_type(f.return_type());
     write(out, to + program::RETURN_TYPE, 4, u32::from(ret) as usize);
     let place = lay_params(f, out, to + program::PARAM_COUNT);
     lay_locals(locals, out, place)
+}
+
+// How long a function's record is.
+fn function_size(f: Function, ctx: &FnCtx) -> usize
+    requires { Within ctx.now }
+    ensures { result ≡ head_size (function_in f.entry) (length ctx.now.locals) + length (blocks_part ctx.now) }
+{
+    let params = program::PARAM * f.param_count();
+    let locals = TYPE * ctx.locals().len();
+    program::PARAMS + params + 2 + locals + blocks_size(ctx)
 }
 
 // A function's record, from what its walk left; the place behind it, if it fits.
@@ -134,12 +154,9 @@ pub fn lay_function(
     if !ctx.is_whole() {
         return None;
     }
-    let locals = ctx.locals();
-    let head = program::PARAMS + 2 + program::PARAM * f.param_count() + TYPE * locals.len();
-    let size = head + blocks_size(ctx);
-    if !fits(out, to, size) {
-        return None;
-    }
-    let place = lay_head(f, id, size, locals, out, to);
-    Some(lay_blocks(ctx, out, place))
+    let size = function_size(f, ctx);
+    let end = place_behind(out, to, size)?;
+    let blocks = lay_head(f, id, size, ctx.locals(), out, to);
+    lay_blocks(ctx, out, blocks);
+    Some(end)
 }

@@ -3,16 +3,15 @@
 use Rattle.std.specs.Prelude as code
 use Rattle.std.specs.Prelude.{None, Some}
 use mathlib.Core.Path.{◌≡◌, refl, ap, sym, ◌∙◌}
-use mathlib.Core.Bool.{Bool, true, false}
+use mathlib.Core.Bool.{Bool, true, false, ◌||◌}
 use mathlib.Core.List.{List, [], ◌∷◌, ◌++◌, append_assoc, append-nil}
 use mathlib.Core.Option.{Option, none, some}
-use Prim.Native.Nat.{ℕ, zero, suc, ◌+◌, ◌≤◌, ◌<◌}
-use native.Mathlib.Numerals.{add-one}
-use native.Mathlib.Omega.{arith}
+use Prim.Native.Nat.{ℕ, zero, suc}
 use borrow.Author.Tests.{eqb-true, eq-eqb, eqb-false, ne_eqb}
 use lib.Dec.{eqb}
 use lib.ListN.{length, drop, length-append}
-use Rattle.std.specs.Option.{IsSome}
+use Rattle.std.proofs.lemmas.Iterator.{YieldsList}
+use Rattle.std.proofs.lemmas.Iterator.Consumers.{YieldsList-from_shown}
 use Rattle.definitions.specs.Ast.{Function, Contract}
 use Rattle.definitions.specs.Lower.{set_name, function_names}
 use Rattle.definitions.specs.Names.{last_named, or_this}
@@ -23,11 +22,11 @@ use Rattle.definitions.specs.ProgramSheet.{function_name_tree}
 use Rattle.definitions.specs.Sema.{return_type}
 use Rattle.definitions.proofs.Fields.{length_bytes}
 use Rattle.definitions.proofs.Results.{by_test}
-use Rattle.ir.specs.Answers.{option_of}
 use Rattle.contract_nodes.specs.Nodes.{function_in}
-use Rattle.contract_nodes.specs.declared.contract.Function as nodes
-use Rattle.contract_lookup.specs.Answers.{nth_function, id_named}
-use Rattle.lower_layout.specs.Laid.{room_of, Laid}
+use Rattle.contract_lookup.specs.Answers.{id_named}
+use Rattle.contract_lookup.specs.Walked.{left_in, TakesNext}
+use Rattle.contract_lookup.specs.declared.items.FunctionIter.{FunctionIter}
+use Rattle.lower_layout.specs.Laid.{Laid}
 use Rattle.lower_layout.proofs.Storing.{laid_then, laid_lost}
 use Rattle.lower_name_table.specs.NameTable.{is_named, names_of}
 
@@ -58,7 +57,7 @@ unseen P (r ∷ rs) = pick (P r.0) (unseen P rs) (r ∷ unseen P rs)
 
 -- one name more
 abbrev or_name : ℕ → (ℕ → Bool) → ℕ → Bool
-or_name n P m = pick (eqb n m) true (P m)
+or_name n P m = eqb n m || P m
 
 unseen_both : (P : ℕ → Bool) (n : ℕ) (rs : Rows) → unseen P (unseen (eqb n) rs) ≡ unseen (or_name n P) rs
 unseen_both P n [] = refl
@@ -129,56 +128,21 @@ rows_next P i f fs = ap (unseen P) (first_row (suc i) fs f.name i []) ∙ rw (un
 last_is : (i : ℕ) (f : Function) (fs : List Function) → (g : Function) × (last_from i (f ∷ fs) f.name ≡ some (id_or (last_from (suc i) fs f.name) i, g))
 last_is i f fs = rw (eq-eqb f.name f.name refl) (or_this_lem (last_from (suc i) fs f.name) i f)
 
--- THE i-th FUNCTION
-there : (fs : List Function) (i : ℕ) {f : Function} → some f ≡ nth_function fs i → drop i fs ≡ f ∷ drop (suc i) fs
-there [] i h = absurd (cc)
-there (g ∷ fs) zero {f} h = let e : f ≡ g = cc in rw e
-there (g ∷ fs) (suc i) h = there fs i h
-
-is_there : (fs : List Function) (i : ℕ) → i < length fs → none ≡ nth_function fs i → ⊥
-is_there [] i l h = omega arith
-is_there (f ∷ fs) zero l h = absurd (cc)
-is_there (f ∷ fs) (suc i) l h = is_there fs i (omega arith) h
-
-none_left : (fs : List Function) (i : ℕ) → length fs ≤ i → drop i fs ≡ []
-none_left [] zero h = refl
-none_left [] (suc i) h = refl
-none_left (f ∷ fs) zero h = absurd (omega arith)
-none_left (f ∷ fs) (suc i) h = none_left fs i (omega arith)
-
--- there is one, and what was found is it
-pub some_there : (fs : List Function) (i : ℕ) (o : code.Option nodes.Function) → option_of function_in o ≡ nth_function fs i → i < length fs → IsSome o
-some_there fs i None h l = absurd (is_there fs i l h)
-some_there fs i (Some f) h l = refl
-
-pub found : (fs : List Function) (i : ℕ) {o : code.Option nodes.Function} {f : nodes.Function} → o ≡ Some f → option_of function_in o ≡ nth_function fs i → some (function_in f) ≡ nth_function fs i
-found fs i q h = ap (option_of function_in) (sym q) ∙ h
-
 -- AN EARLIER FUNCTION of a name
-either : (t u v : Bool) → pick t true (pick u true v) ≡ pick u true (pick t true v)
+either : (t u v : Bool) → (t || (u || v)) ≡ (u || (t || v))
 either true true v = refl
 either true false v = refl
 either false u v = refl
 
-is_named_next : (m i : ℕ) (fs : List Function) (f : Function) → some f ≡ nth_function fs i → is_named m (suc i) fs ≡ pick (eqb f.name m) true (is_named m i fs)
-is_named_next m i [] f h = absurd (cc)
-is_named_next m zero (g ∷ fs) f h = let e : f ≡ g = cc in rw e
-is_named_next m (suc i) (g ∷ fs) f h = rw (is_named_next m i fs f h) (either (eqb g.name m) (eqb f.name m) (is_named m i fs))
+is_named_next : (m i : ℕ) (fs : List Function) {f : Function} {more : List Function} → f ∷ more ≡ drop i fs → is_named m (suc i) fs ≡ (eqb f.name m || is_named m i fs)
+is_named_next m zero [] h = absurd (cc)
+is_named_next m (suc i) [] h = absurd (cc)
+is_named_next m zero (g ∷ fs) {f} h = let e : f ≡ g = cc in rw e refl
+is_named_next m (suc i) (g ∷ fs) {f} h = rw (is_named_next m i fs h) (either (eqb g.name m) (eqb f.name m) (is_named m i fs))
 
--- the i-th function has the name
-pub named_there : (m i n : ℕ) (fs : List Function) (f : Function) → some f ≡ nth_function fs i → f.name ≡ m → i < n → is_named m n fs ≡ true
-named_there m i zero fs f h e l = absurd (omega arith)
-named_there m i (suc n) [] f h e l = absurd (cc)
-named_there m zero (suc n) (g ∷ fs) f h e l = let q : f ≡ g = cc in rw (← q, eq-eqb f.name m e)
-named_there m (suc i) (suc n) (g ∷ fs) f h e l = rw (named_there m i n fs f h e (omega arith)) (always (eqb g.name m))
-  where
-    always : (t : Bool) → pick t true true ≡ true
-    always true = refl
-    always false = refl
-
--- it has not
-pub not_there : (m i : ℕ) (fs : List Function) (f : Function) → some f ≡ nth_function fs i → (f.name ≡ m → ⊥) → is_named m i fs ≡ false → is_named m (i + 1) fs ≡ false
-not_there m i fs f h e q = ap (λ (n : ℕ). is_named m n fs) (add-one i) ∙ is_named_next m i fs f h ∙ rw (ne_eqb f.name m e) q
+-- the functions, as their iterator gives them
+pub functions_left : (w : FunctionIter) → YieldsList TakesNext (λ p. function_in p.1) w (left_in w)
+functions_left w = YieldsList-from_shown TakesNext (λ p. function_in p.1) left_in (λ s t h. ap length h) (λ s x t h. h.is) w
 
 -- LAYING THE NAMES DOWN
 abbrev name_rows : Rows → List ℕ
@@ -202,19 +166,19 @@ pub record Named (fs : List Function) (before : List ℕ) (to i : ℕ) (now : Li
   pub rows_are : function_names 0 fs [] ≡ rows ++ rows_left seen i (drop i fs)
   pub laid : Laid (name_rows rows) before to now (Some at)
 
-pub start : (fs : List Function) {before : List ℕ} {to : ℕ} → to ≤ room_of (length before) → Named fs before to 0 before to
+pub start : (fs : List Function) {before : List ℕ} {to at : ℕ} → Laid [] before to before (Some at) → Named fs before to 0 before at
 unfolding write_trees
-start fs {before} {to} h =
+start fs x =
     record {
       seen = λ n. false;
       seen_is = λ n. refl;
       later = λ n x e. e;
       rows = [];
       rows_are = sym (all_unseen (function_names 0 fs []));
-      laid = record { same_length = refl; fits = λ g. (refl, ap (λ (r : ℕ). Some r) (omega arith)); over = λ g. absurd (omega (arith, g, h)) };
+      laid = x;
     }
 
-module _ {fs : List Function} {before now : List ℕ} {to i at : ℕ} (N : Named fs before to i now at) (f : Function) (h : some f ≡ nth_function fs i) where
+module _ {fs : List Function} {before now : List ℕ} {to i at : ℕ} (N : Named fs before to i now at) (f : Function) (h : drop i fs ≡ f ∷ drop (suc i) fs) where
   id_here : ℕ
   id_here = id_or (last_from (suc i) (drop (suc i) fs) f.name) i
 
@@ -223,30 +187,28 @@ module _ {fs : List Function} {before now : List ℕ} {to i at : ℕ} (N : Named
 
   rows_here : rows_left N.seen i (drop i fs) ≡ pick (N.seen f.name) left ((f.name, id_here) ∷ left)
   unfolding left id_here
-  rows_here = rw (there fs i h) (rows_next N.seen i f (drop (suc i) fs))
+  rows_here = rw h (rows_next N.seen i f (drop (suc i) fs))
 
-  next : {after : List ℕ} {end : ℕ} (rows : Rows) → N.rows ++ rows_left N.seen i (drop i fs) ≡ rows ++ left → Laid (name_rows rows) before to after (Some end) → Named fs before to (i + 1) after end
+  next : {after : List ℕ} {end : ℕ} (rows : Rows) → N.rows ++ rows_left N.seen i (drop i fs) ≡ rows ++ left → Laid (name_rows rows) before to after (Some end) → Named fs before to (suc i) after end
   unfolding left
-  next {after} {end} rows q x =
-      let N' : Named fs before to (suc i) after end =
+  next rows q x =
       record {
         seen = or_name f.name N.seen;
-        seen_is = λ m. ap (pick (eqb f.name m) true) (N.seen_is m) ∙ sym (is_named_next m i fs f h);
-        later = λ m y p. N.later m y (rw (there fs i h, p));
+        seen_is = λ m. ap (λ (b : Bool). eqb f.name m || b) (N.seen_is m) ∙ sym (is_named_next m i fs (sym h));
+        later = λ m y p. N.later m y (rw (h, p));
         rows = rows;
         rows_are = N.rows_are ∙ q;
         laid = x;
-      } in
-      rw add-one N'
+      }
 
   -- an earlier one has the name
-  pub next_old : is_named f.name i fs ≡ true → Named fs before to (i + 1) now at
+  pub next_old : is_named f.name i fs ≡ true → Named fs before to (suc i) now at
   next_old q = next N.rows (ap (λ (rs : Rows). N.rows ++ rs) (rows_here ∙ rw (N.seen_is f.name, q))) N.laid
 
   -- a new name: the last function that has it
   last_here : (g : Function) × (last_from 0 fs f.name ≡ some (id_here, g))
   unfolding id_here
-  last_here = let r = last_is i f (drop (suc i) fs) in (r.0, N.later f.name _ (rw (there fs i h) r.1))
+  last_here = let r = last_is i f (drop (suc i) fs) in (r.0, N.later f.name _ (rw h r.1))
 
   -- no earlier one has it: a row with its id, which may not fit
   row : ℕ → Rows
@@ -262,7 +224,7 @@ module _ {fs : List Function} {before now : List ℕ} {to i at : ℕ} (N : Named
 
 -- THE CONTRACT'S FUNCTIONS
 module _ (K : Contract) {before now : List ℕ} {to i at : ℕ} (N : Named K.functions before to i now at) where
-  module _ (f : Function) (h : some f ≡ nth_function K.functions i) where
+  module _ (f : Function) (h : drop i K.functions ≡ f ∷ drop (suc i) K.functions) where
     -- its name has an id
     pub has_id : (p : ℕ × IrType) × (id_named K f.name ≡ some p)
     unfolding id_named
@@ -272,7 +234,7 @@ module _ (K : Contract) {before now : List ℕ} {to i at : ℕ} (N : Named K.fun
     unfolding has_id
     is_id id q = q _ _ has_id.1
 
-    pub next_new : {after : List ℕ} {end : ℕ} (id : ℕ) → is_named f.name i K.functions ≡ false → ((j : ℕ) (t : IrType) → id_named K f.name ≡ some (j, t) → id ≡ j) → Laid (write_tree (function_name_tree (f.name, id))) now at after (Some end) → Named K.functions before to (i + 1) after end
+    pub next_new : {after : List ℕ} {end : ℕ} (id : ℕ) → is_named f.name i K.functions ≡ false → ((j : ℕ) (t : IrType) → id_named K f.name ≡ some (j, t) → id ≡ j) → Laid (write_tree (function_name_tree (f.name, id))) now at after (Some end) → Named K.functions before to (suc i) after end
     next_new id r q x = next N f h (N.rows ++ row N f h id) (new_row N f h id r (is_id id q)) (row_laid N f h id x)
 
     pub lost_new : {after : List ℕ} (id : ℕ) → is_named f.name i K.functions ≡ false → ((j : ℕ) (t : IrType) → id_named K f.name ≡ some (j, t) → id ≡ j) → Laid (write_tree (function_name_tree (f.name, id))) now at after None → Laid (names_of K) before to after None
@@ -280,7 +242,7 @@ module _ (K : Contract) {before now : List ℕ} {to i at : ℕ} (N : Named K.fun
         let e : function_names 0 K.functions [] ≡ (N.rows ++ row N f h id) ++ left N f h = N.rows_are ∙ new_row N f h id r (is_id id q) in
         rw (e, rows_append (N.rows ++ row N f h id) (left N f h)) (laid_lost _ (row_laid N f h id x))
 
-  pub all_named : length K.functions ≤ i → Laid (names_of K) before to now (Some at)
-  all_named l =
-      let r : function_names 0 K.functions [] ≡ N.rows = N.rows_are ∙ rw (none_left K.functions i l) (append-nil N.rows) in
+  pub all_named : drop i K.functions ≡ [] → Laid (names_of K) before to now (Some at)
+  all_named e =
+      let r : function_names 0 K.functions [] ≡ N.rows = N.rows_are ∙ rw e (append-nil N.rows) in
       rw r N.laid

@@ -1,7 +1,9 @@
 // The records of the functions' names at the program sheet's end: one for each distinct name in order of first appearance, with the last id of it.
 #![tactic(auto)]
 
-ghost use Rattle.std.specs.Prelude.{ℕ, ◌≡◌, ◌*◌, ◌≤◌, length};
+// `out` and `to` stay two parameters, as in lower_layout.
+
+ghost use Rattle.std.specs.Prelude.{ℕ, ◌≡◌};
 ghost use Rattle.std.proofs.Math.Option.{some};
 ghost use Rattle.definitions.specs.Ir as defs;
 ghost use Rattle.definitions.specs.Records.{write_tree};
@@ -14,22 +16,19 @@ ghost use Rattle.lower_name_table.specs.NameTable.{is_named, names_of};
 use contract_lookup::items::Functions;
 use contract_lookup::symbols::signature_named;
 use format::kinds::Kind;
-use format::{ID, KIND, program};
+use format::{ID, program};
 use ir::{FunctionId, Name};
-use lower_layout::fits;
+use lower_layout::{place_behind, write_head};
 use writer::write;
 
-// Whether one of the first n functions has this name.
-fn named_before(functions: &Functions, n: usize, name: Name) -> bool
-    requires { n ≤ length (contract_in functions.now.contract).functions }
-    ensures { result ≡ is_named name.0 n (contract_in functions.now.contract).functions }
+// Whether a function before the one with this id has this name.
+fn named_before(functions: &Functions, id: FunctionId, name: Name) -> bool
+    ensures { result ≡ is_named name.0 id.0 (contract_in functions.now.contract).functions }
 {
-    for i in 0..n {
-        if functions.get(i).unwrap().name() == name {
-            return true;
-        }
-    }
-    false
+    functions
+        .iter()
+        .take(id.0 as usize)
+        .any(|(_, f)| f.name() == name)
 }
 
 // The bytes of a record of a function's name.
@@ -39,14 +38,11 @@ const NAME_BYTES: usize = program::NAMED_ID + ID;
 fn lay_name(name: Name, id: FunctionId, out: &mut [u8], to: usize) -> Option<usize>
     ensures { Laid (write_tree (function_name_tree (name.0, id.0))) out.old to out.new result }
 {
-    if !fits(out, to, NAME_BYTES) {
-        return None;
-    }
-    write(out, to, 4, NAME_BYTES);
-    write(out, to + KIND, 2, u16::from(Kind::FunctionName) as usize);
+    let end = place_behind(out, to, NAME_BYTES)?;
+    write_head(out, to, NAME_BYTES, Kind::FunctionName);
     write(out, to + program::NAME_OF, 2, name.0 as usize);
     write(out, to + program::NAMED_ID, 2, id.0 as usize);
-    Some(to + NAME_BYTES)
+    Some(end)
 }
 
 // The last id of a name that a function has.
@@ -61,13 +57,10 @@ fn last_id(functions: &Functions, name: Name) -> FunctionId
 pub fn lay_names(functions: &Functions, out: &mut [u8], to: usize) -> Option<usize>
     ensures { Laid (names_of (contract_in functions.now.contract)) out.old to out.new result }
 {
-    if !fits(out, to, 0) {
-        return None;
-    }
-    let mut at = to;
-    for i in 0..functions.len() {
-        let name = functions.get(i).unwrap().name();
-        if !named_before(functions, i, name) {
+    let mut at = place_behind(out, to, 0)?;
+    for (id, f) in functions.iter() {
+        let name = f.name();
+        if !named_before(functions, id, name) {
             at = lay_name(name, last_id(functions, name), out, at)?;
         }
     }

@@ -1,12 +1,11 @@
 // The names that are held.
+use arrayvec::ArrayVec;
 use ir::{IrType, LocalId, Name};
+use lower_state::MOST_LOCALS;
 use std::marker::Model;
 
-// How many names may be held: each has a local.
-pub const MOST_HELD: usize = 256;
-
 // A name with the number of its scope, its local and its type.
-#[derive(Clone, Copy, Debug)]
+#[derive(Clone, Copy, Debug, Default)]
 struct Entry {
     name: Name,
     scope: u16,
@@ -14,19 +13,11 @@ struct Entry {
     ty: IrType,
 }
 
-const NOTHING: Entry = Entry {
-    name: Name::EMPTY,
-    scope: 0,
-    local: LocalId(0),
-    ty: IrType::U64,
-};
-
 // The names that are held in all open scopes, newest last, and the number of the innermost scope: a function's own is 0, and an arm or a
-// body is one more than what it stands in.
+// body is one more than what it stands in. Each name has a local, so that at most so many are held as there may be locals.
 #[derive(Drop)]
 pub struct Scopes {
-    entries: [Entry; MOST_HELD],
-    count: usize,
+    entries: ArrayVec<Entry, MOST_LOCALS>,
     scope: u16,
 }
 
@@ -36,11 +27,9 @@ impl Model for Scopes {
 
     ghost Value = { HeldNames };
 
-    ghost use Rattle.lower_names.specs.Entries.{held_names_in, EntriesFit};
+    ghost use Rattle.lower_names.specs.Entries.{held_names_in};
 
     ghost view = { held_names_in };
-
-    ghost invariant = { EntriesFit };
 }
 
 impl Scopes {
@@ -57,8 +46,7 @@ impl Scopes {
         ensures { result ≡ record { held = []; scope = 0 } }
     {
         Scopes {
-            entries: [NOTHING; MOST_HELD],
-            count: 0,
+            entries: ArrayVec::new(),
             scope: 0,
         }
     }
@@ -67,14 +55,15 @@ impl Scopes {
     pub fn len(&self) -> usize
         ensures { result ≡ length self.now.held }
     {
-        self.count
+        self.entries.len()
     }
 
     // The local and type of the newest entry of a name.
     pub fn lookup(&self, name: Name) -> Option<(LocalId, IrType)>
         ensures { option_of local_of result ≡ in_scope name.0 (names self.now.held) }
     {
-        self.entries[..self.count]
+        self.entries
+            .as_slice()
             .iter()
             .rev()
             .find(|e| e.name == name)
@@ -86,13 +75,12 @@ impl Scopes {
         requires { length self.old.held < 256 }
         ensures { self.new ≡ with_name name.0 local.0 (as_type ty) self.old }
     {
-        self.entries[self.count] = Entry {
+        self.entries.push(Entry {
             name,
             scope: self.scope,
             local,
             ty,
-        };
-        self.count += 1;
+        });
     }
 
     // A scope is opened inside the innermost one.
@@ -108,7 +96,7 @@ impl Scopes {
         requires { (mark ≤ length self.old.held) × (0 < self.old.scope) }
         ensures { self.new ≡ outside mark self.old }
     {
-        self.count = mark;
+        self.entries.truncate(mark);
         self.scope -= 1;
     }
 }

@@ -2,9 +2,11 @@
 #![tactic(auto)]
 
 ghost use Rattle.std.specs.Prelude.{◌≡◌, ℕ, ◌≤◌};
-ghost use Rattle.definitions.specs.Ast.{Stmt, present};
-ghost use Rattle.contract_nodes.specs.Nodes.{expr_in, exprs_in, count_of};
-ghost use Rattle.lower_simple.specs.Stated.{stated, let_stated, stmt_on};
+ghost use Rattle.definitions.specs.Ast.{Stmt};
+ghost use Rattle.contract_nodes.specs.Nodes.{returned, expr_in, exprs_in, count_of};
+ghost use Rattle.lower_walk.specs.Grown.{Grown};
+ghost use Rattle.contract_nodes.specs.declared.contract.Contract.{Contract};
+ghost use Rattle.lower_simple.specs.Stated.{stated, let_stated, stmt_on, OnSheet};
 
 use contract_lookup::symbols::storage_slot;
 use contract_nodes::{Expr, Exprs};
@@ -22,7 +24,8 @@ pub fn lower_let(
     scopes: &Scopes,
     e: Expr,
 ) -> Result<(LocalId, IrType), LoweringError>
-    ensures { (p n : ℕ) → let_stated ctx.new scopes.now n result ≡ stmt_on e.entry.contract scopes.now (Stmt.Let p n (expr_in e.entry)) ctx.old }
+    ensures is { (p n : ℕ) → let_stated ctx.new scopes.now n result ≡ stmt_on e.entry.contract scopes.now (Stmt.Let p n (expr_in e.entry)) ctx.old }
+    ensures grown { Grown ctx.old ctx.new }
 {
     let (value, ty) = lower_expr_value(ctx, scopes, e)?;
     let local = init_local(ctx, ty, value)?;
@@ -32,7 +35,8 @@ pub fn lower_let(
 // Constrain.
 #[tactic(auto, unfolding(lower_walk::specs::Stmts::walk_stmt))]
 pub fn lower_constrain(ctx: &mut FnCtx, scopes: &Scopes, e: Expr) -> Result<(), LoweringError>
-    ensures { (p : ℕ) → stated ctx.new scopes.now result ≡ stmt_on e.entry.contract scopes.now (Stmt.Constrain p (expr_in e.entry)) ctx.old }
+    ensures is { (p : ℕ) → stated ctx.new scopes.now result ≡ stmt_on e.entry.contract scopes.now (Stmt.Constrain p (expr_in e.entry)) ctx.old }
+    ensures grown { Grown ctx.old ctx.new }
 {
     let (value, _) = lower_expr_value(ctx, scopes, e)?;
     emit_assert(ctx, value);
@@ -47,7 +51,8 @@ pub fn lower_assign(
     name: Name,
     e: Expr,
 ) -> Result<(), LoweringError>
-    ensures { (p : ℕ) → stated ctx.new scopes.now result ≡ stmt_on e.entry.contract scopes.now (Stmt.Assign p name.0 (expr_in e.entry)) ctx.old }
+    ensures is { (p : ℕ) → stated ctx.new scopes.now result ≡ stmt_on e.entry.contract scopes.now (Stmt.Assign p name.0 (expr_in e.entry)) ctx.old }
+    ensures grown { Grown ctx.old ctx.new }
 {
     let (value, _) = lower_expr_value(ctx, scopes, e)?;
     let (local, _) = scopes
@@ -65,7 +70,8 @@ pub fn lower_storage_write(
     name: Name,
     e: Expr,
 ) -> Result<(), LoweringError>
-    ensures { (p : ℕ) → stated ctx.new scopes.now result ≡ stmt_on e.entry.contract scopes.now (Stmt.StorageWrite p name.0 (expr_in e.entry)) ctx.old }
+    ensures is { (p : ℕ) → stated ctx.new scopes.now result ≡ stmt_on e.entry.contract scopes.now (Stmt.StorageWrite p name.0 (expr_in e.entry)) ctx.old }
+    ensures grown { Grown ctx.old ctx.new }
 {
     let slot = storage_slot(e.contract, name).ok_or(LoweringError::UndefinedVariable(name))?;
     let (value, _) = lower_expr_value(ctx, scopes, e)?;
@@ -73,17 +79,25 @@ pub fn lower_storage_write(
     Ok(())
 }
 
-// Return of a value.
+// Return, of a value or of none.
 #[tactic(auto, unfolding(lower_walk::specs::Stmts::walk_stmt, lower_walk::specs::Stmts::walk_return))]
-pub fn lower_return(ctx: &mut FnCtx, scopes: &Scopes, e: Expr) -> Result<(), LoweringError>
-    ensures { (p : ℕ) → stated ctx.new scopes.now result ≡ stmt_on e.entry.contract scopes.now (Stmt.Return p (present (expr_in e.entry))) ctx.old }
+pub fn lower_return(
+    ctx: &mut FnCtx,
+    scopes: &Scopes,
+    value: Option<Expr>,
+) -> Result<(), LoweringError>
+    ensures is { (K : Contract) (p : ℕ) → OnSheet K value.entry → stated ctx.new scopes.now result ≡ stmt_on K scopes.now (Stmt.Return p (returned value.entry)) ctx.old }
+    ensures grown { Grown ctx.old ctx.new }
 {
-    let (value, _) = lower_expr_value(ctx, scopes, e)?;
+    let value = match value {
+        Some(e) => Some(lower_expr_value(ctx, scopes, e)?.0),
+        None => None,
+    };
     return_value(ctx, value);
     Ok(())
 }
 
-// Emit: the arguments, then the event.
+// Emit: the arguments, then the event. The loop over arguments stands in `lower_exprs::lower_call` too, where the reason stands.
 pub fn lower_emit(
     ctx: &mut FnCtx,
     scopes: &Scopes,
@@ -91,7 +105,8 @@ pub fn lower_emit(
     args: Exprs,
 ) -> Result<(), LoweringError>
     requires { count_of (exprs_in args) ≤ 16 }
-    ensures { (p : ℕ) → stated ctx.new scopes.now result ≡ stmt_on args.entry.contract scopes.now (Stmt.Emit p event.0 (exprs_in args.entry)) ctx.old }
+    ensures is { (p : ℕ) → stated ctx.new scopes.now result ≡ stmt_on args.entry.contract scopes.now (Stmt.Emit p event.0 (exprs_in args.entry)) ctx.old }
+    ensures grown { Grown ctx.old ctx.new }
 {
     let mut values = Args::new();
     for arg in args {
@@ -105,7 +120,8 @@ pub fn lower_emit(
 // An expression as a statement; what it gives is not used.
 #[tactic(auto, unfolding(lower_walk::specs::Stmts::walk_stmt))]
 pub fn lower_expr_stmt(ctx: &mut FnCtx, scopes: &Scopes, e: Expr) -> Result<(), LoweringError>
-    ensures { (p : ℕ) → stated ctx.new scopes.now result ≡ stmt_on e.entry.contract scopes.now (Stmt.ExprStmt p (expr_in e.entry)) ctx.old }
+    ensures is { (p : ℕ) → stated ctx.new scopes.now result ≡ stmt_on e.entry.contract scopes.now (Stmt.ExprStmt p (expr_in e.entry)) ctx.old }
+    ensures grown { Grown ctx.old ctx.new }
 {
     lower_expr(ctx, scopes, e)?;
     Ok(())

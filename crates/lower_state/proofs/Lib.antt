@@ -1,3 +1,4 @@
 pub mod Appending
 pub mod Ids
+pub mod Numbers
 pub mod Spans

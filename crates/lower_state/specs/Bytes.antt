@@ -1,18 +1,28 @@
 -- The bytes of a record that the log gets, and that it got them. Untrusted: helper definitions, shown equal to `write_tree` of the
 -- record's tree.
 use Rattle.std.specs.Prelude.{ℕ, ◌+◌, ◌*◌, ◌≤◌, ◌≡◌, List, [], ◌∷◌, ◌++◌, map, length, Option, None, Some, IfSome}
+use Rattle.std.proofs.Math.Option as maths
+use Rattle.std.proofs.lemmas.List.Edits.{sets}
 use Rattle.definitions.specs.Fields.{bytes}
 use Rattle.ir.specs.declared.ValueId.{ValueId}
+use Rattle.ir.specs.Answers.{option_of}
 use Rattle.lower_walk.specs.Log.{room, append, log_of}
-use Rattle.lower_state.specs.declared.records.Part.{Part}
+use Rattle.lower_state.specs.declared.part.Part.{Part}
 
--- length, kind, the two bytes that the fields start with, and three parts; `more` bytes belong to the record and come later
-unfoldable pub record_bytes : (kind first : ℕ) (a b c : Part) (more : ℕ) → List ℕ
-record_bytes kind first a b c more =
-    bytes 4 (8 + a.0 + b.0 + c.0 + more) ++ bytes 2 kind ++ bytes 0 0 ++ bytes 2 first ++ bytes a.0 a.1 ++ bytes b.0 b.1 ++ bytes c.0 c.1
+-- how many bytes, and of what number
+abbrev pub part_in : Part → ℕ × ℕ
+part_in p = (p.width, p.number)
 
-abbrev pub part : ℕ → ℕ → Part
-part n v = record { 0 = n; 1 = v }
+abbrev pub no_part : ℕ × ℕ
+no_part = (0, 0)
+
+-- what a record's fields start with: an id, or what stands for none
+abbrev pub id_or : maths.Option ℕ → ℕ
+id_or maths.none = 65535
+id_or (maths.some n) = n
+
+abbrev pub first_number : Option ValueId → ℕ
+first_number v = id_or (option_of (λ v. v.0) v)
 
 -- ids in two bytes each
 unfoldable pub id_bytes : List ℕ → List ℕ
@@ -23,14 +33,20 @@ id_bytes (i ∷ is) = bytes 2 i ++ id_bytes is
 abbrev pub ids_of : List ValueId → List ℕ
 ids_of ids = map (λ (v : ValueId). v.0) ids
 
--- a record of two parts that ends in ids
-abbrev pub list_bytes : (kind first : ℕ) (a b : Part) (ids : List ℕ) → List ℕ
-list_bytes kind first a b ids = record_bytes kind first a b (part 0 0) (2 * length ids) ++ id_bytes ids
+-- size, kind, the two bytes that the fields start with, three parts, and ids
+unfoldable pub record_bytes : (kind first : ℕ) (a b c : ℕ × ℕ) (ids : List ℕ) → List ℕ
+record_bytes kind first a b c ids =
+    bytes 4 (8 + a.0 + b.0 + c.0 + 2 * length ids) ++ bytes 2 kind ++ bytes 0 0 ++ bytes 2 first ++ bytes a.0 a.1 ++ bytes b.0 b.1 ++ bytes c.0 c.1 ++ id_bytes ids
 
 -- the log's end as a number: more than the room once all is lost
 abbrev pub log_end : Option ℕ → ℕ
 log_end None = 32769
 log_end (Some n) = n
+
+-- from l to m, the bytes x were stored from `at` on, up to the place `to`
+pub record Stored (l : List ℕ) (at : ℕ) (x m : List ℕ) (to : ℕ) : Type 0 where
+  pub is : m ≡ sets l at x
+  pub end : to ≡ at + length x
 
 -- from l, with the log's end at `at`, to m, with its end at r, the bytes x were appended
 pub record Added (l : List ℕ) (at : ℕ) (x m : List ℕ) (r : Option ℕ) : Type 0 where

@@ -5,9 +5,9 @@ use Rattle.definitions.specs.Records.{pick}
 use Rattle.definitions.specs.Result.{err, ok}
 use Rattle.definitions.specs.Lower.{LoweringError, Lowering}
 use Rattle.ir.specs.Types.{as_type}
-use Rattle.lower_walk.specs.Log.{log_of}
+use Rattle.lower_walk.specs.Log.{append, log_of}
 use Rattle.lower_walk.specs.Stmts as walk
-use Rattle.lower_walk.specs.Stmts.{LogCtx, with_local}
+use Rattle.lower_walk.specs.Stmts.{LogCtx, with_log, with_local}
 use Rattle.lower_state.specs.Bytes.{log_end}
 use Rattle.lower_state.specs.declared.ctx.Blocks.{Blocks}
 use Rattle.lower_state.specs.declared.ctx.Span.{Span}
@@ -33,6 +33,10 @@ pub record Sound (c : Inside) : Type 0 where
 
 abbrev pub blocks_of : Blocks → walk.Blocks
 blocks_of b = record { first = b.first.0; second = b.second.0; third = b.third.0 }
+
+-- bytes behind the last record
+abbrev pub appended : List ℕ → LogCtx → LogCtx
+appended x c = with_log (append x c.log) c
 
 -- a new local, with nothing written to it
 abbrev pub new_local : IrType → LogCtx → Lowering (LogCtx × ℕ)

@@ -3,9 +3,9 @@ ghost use Rattle.std.specs.Prelude.{◌≡◌, ◌≤◌, IfSome};
 ghost use Rattle.lower_walk.specs.Log.{capped};
 ghost use Rattle.lower_state.specs.Bytes.{log_end};
 
-use crate::records::{put_list, put_record};
-use crate::{LOST, Log, LoweringError, MOST_BLOCKS, MOST_LOCALS, Part};
-use format::MOST;
+use crate::records::put_record;
+use crate::{LOST, Log, LoweringError, MOST_BLOCKS, MOST_LOCALS, Part, id_or_absent};
+use format::{MOST, kinds};
 use ir::{BlockId, FunctionId, IrType, LocalId, ValueId};
 use lower_counters::Counters;
 use std::marker::Model;
@@ -27,7 +27,9 @@ pub struct Blocks {
 
 // A function under way (`FnCtx`): its id, the next value, block and local, the current block and whether that has its terminator, the
 // place behind the log's last record, which is None once a record did not fit, the log, the types of the locals, and where each
-// block's records stand.
+// block's records stand. The current block and `ended` are no Option of an open block: the state of the walk, which a clause sees, has the
+// current block behind its terminator too. The two lists are arrays: the counters have their lengths, which an ArrayVec would count again
+// (tried for the locals: as fast).
 #[derive(Drop)]
 pub struct FnCtx {
     function: FunctionId,
@@ -62,24 +64,21 @@ fn place_of(to: Option<usize>) -> u32
 }
 
 impl FnCtx {
-    ghost use Rattle.std.specs.Prelude.{ℕ, suc, ◌+◌, ◌*◌, ◌%◌, ◌≤◌, ◌<◌, ◌++◌, map, length, leb, get_or, replicate, IfErr};
-    ghost use Rattle.definitions.specs.Ir as defs;
+    ghost use Rattle.std.specs.Prelude.{ℕ, suc, ◌+◌, ◌%◌, ◌≤◌, ◌<◌, [], map, length, leb, get_or, replicate, IfErr};
+    ghost use Rattle.format.specs.Kinds.{instr_number, term_number};
     ghost use Rattle.ir.specs.Types.{as_type};
-    ghost use Rattle.lower_walk.specs.Log.{append, counted};
+    ghost use Rattle.lower_walk.specs.Log.{counted};
     ghost use Rattle.lower_walk.specs.Stmts.{with_log, switch_to, three_blocks};
     ghost use Rattle.lower_walk.specs.Layout.{new_ctx, slice};
     ghost use Rattle.lower_state.specs.Answers.{with_state};
-    ghost use Rattle.lower_state.specs.Bytes.{record_bytes, list_bytes, ids_of};
-    ghost use Rattle.lower_state.specs.State.{blocks_of, closed, new_local, BlockWithin};
+    ghost use Rattle.lower_state.specs.Bytes.{part_in, no_part, first_number, record_bytes, ids_of};
+    ghost use Rattle.lower_state.specs.State.{appended, blocks_of, closed, new_local, BlockWithin};
 
+    #[tactic(auto, unfolding(lower_walk::specs::Layout::new_ctx))]
     pub fn new(function: FunctionId) -> FnCtx
         ensures { result ≡ new_ctx function.0 (replicate 256 0) (replicate 256 0) }
     {
-        let mut counters = Counters {
-            value: 0,
-            block: 0,
-            local: 0,
-        };
+        let mut counters = Counters::START;
         let current = counters.next_block();
         FnCtx {
             function,
@@ -93,17 +92,14 @@ impl FnCtx {
         }
     }
 
-    // The same for another function, in the same memory: the first block is the current one, and nothing is in the log.
+    // The same for another function, in the same memory: the first block is the current one, and nothing is in the log. `new` makes the
+    // arrays, once for a contract, so it does not end in a call of this.
     pub fn begin(&mut self, function: FunctionId)
         ensures is { self.new ≡ new_ctx function.0 self.old.starts self.old.stops }
         ensures sizes { (length self.old.starts ≡ 256) × (length self.old.stops ≡ 256) }
     {
         self.function = function;
-        self.counters = Counters {
-            value: 0,
-            block: 0,
-            local: 0,
-        };
+        self.counters = Counters::START;
         self.current = self.counters.next_block();
         self.ended = false;
         self.to = Some(0);
@@ -118,6 +114,7 @@ impl FnCtx {
     }
 
     // Three blocks, or none if one of them would be the 257th.
+    #[tactic(auto, using(std::proofs::lemmas::Bool::Decides::nat_tests), unfolding(lower_walk::specs::Stmts::three_blocks))]
     pub fn three_blocks(&mut self) -> Result<Blocks, LoweringError>
         ensures is { with_state blocks_of self.new result ≡ three_blocks self.old }
         ensures refused { IfErr result (λ e. self.new ≡ self.old) }
@@ -148,23 +145,48 @@ impl FnCtx {
         Ok(local)
     }
 
-    // A record behind the last one.
-    pub fn append(&mut self, kind: u16, first: u16, a: Part, b: Part, c: Part)
-        requires { (a.0 ≤ 8) × ((b.0 ≤ 8) × (c.0 ≤ 8)) }
-        ensures { self.new ≡ with_log (append (record_bytes kind first a b c 0) self.old.log) self.old }
+    // An instruction's record behind the last one, with the value that it gives.
+    pub fn append(
+        &mut self,
+        kind: kinds::Instruction,
+        value: Option<ValueId>,
+        a: Part,
+        b: Part,
+        c: Part,
+    )
+        ensures { self.new ≡ appended (record_bytes (instr_number kind) (first_number value) (part_in a) (part_in b) (part_in c) []) self.old }
     {
-        if let Some(at) = self.to {
-            self.to = put_record(&mut self.log, at, kind, first, a, b, c, 0);
-        }
+        self.append_record(kind as u16, id_or_absent(value), a, b, c, &[]);
     }
 
-    // A record that ends in ids.
-    pub fn append_list(&mut self, kind: u16, first: u16, a: Part, b: Part, ids: &[ValueId])
-        requires { (a.0 ≤ 8) × ((b.0 ≤ 8) × (length ids.now ≤ 16)) }
-        ensures { self.new ≡ with_log (append (list_bytes kind first a b (ids_of ids.now)) self.old.log) self.old }
+    // One that ends in ids.
+    pub fn append_list(
+        &mut self,
+        kind: kinds::Instruction,
+        value: Option<ValueId>,
+        a: Part,
+        b: Part,
+        ids: &[ValueId],
+    )
+        requires { length ids.now ≤ 16 }
+        ensures { self.new ≡ appended (record_bytes (instr_number kind) (first_number value) (part_in a) (part_in b) no_part (ids_of ids.now)) self.old }
+    {
+        self.append_record(kind as u16, id_or_absent(value), a, b, Part::NOTHING, ids);
+    }
+
+    // A terminator's record, with the id that it starts with.
+    pub fn append_terminator(&mut self, kind: kinds::Terminator, first: u16, a: Part, b: Part)
+        ensures { self.new ≡ appended (record_bytes (term_number kind) first (part_in a) (part_in b) no_part []) self.old }
+    {
+        self.append_record(kind as u16, first, a, b, Part::NOTHING, &[]);
+    }
+
+    fn append_record(&mut self, kind: u16, first: u16, a: Part, b: Part, c: Part, ids: &[ValueId])
+        requires { length ids.now ≤ 16 }
+        ensures { self.new ≡ appended (record_bytes kind first (part_in a) (part_in b) (part_in c) (ids_of ids.now)) self.old }
     {
         if let Some(at) = self.to {
-            self.to = put_list(&mut self.log, at, kind, first, a, b, ids);
+            self.to = put_record(&mut self.log, at, kind, first, a, b, c, ids);
         }
     }
 

@@ -4,11 +4,13 @@
 use format::MOST;
 
 pub mod ctx; // a function under way
+mod part; // a part of a record
 mod records; // records appended to the log
 pub mod refusals; // why lowering refuses
 
 pub use ctx::{Blocks, FnCtx};
-pub use records::Part;
+pub use part::Part;
+pub use records::id_or_absent;
 pub use refusals::LoweringError;
 
 // How many blocks and how many locals a function may have.
@@ -19,5 +21,5 @@ pub const MOST_LOCALS: usize = 256;
 // The records of all blocks of a function, in the order of the walk.
 type Log = [u8; MOST];
 
-// The number of a span for a place of the log that is over the room.
+// The number of a span for a place of the log that is over the room. Not None: the state of the walk, which a clause sees, has numbers.
 const LOST: usize = MOST + 1;

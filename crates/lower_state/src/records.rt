@@ -1,34 +1,46 @@
 // Records appended to the log, as bytes.
-ghost use Rattle.std.specs.Prelude.{List, ℕ, ◌++◌, ◌≤◌, length, Some};
+ghost use Rattle.std.specs.Prelude.{◌≡◌, ◌+◌, ◌*◌, ◌≤◌, length};
 ghost use Rattle.definitions.specs.Fields.{bytes};
-ghost use Rattle.lower_state.specs.Bytes.{record_bytes, list_bytes, id_bytes, ids_of, Added};
+ghost use Rattle.lower_state.specs.Bytes.{part_in, first_number, record_bytes, id_bytes, ids_of, Stored, Added};
 
-use crate::Log;
-use format::{MOST, program};
+use crate::{Log, Part};
+use format::{ABSENT, MOST, program};
 use ir::ValueId;
 
-// A part of a record: so many bytes of a number.
-#[derive(Clone, Copy, Debug)]
-pub struct Part(pub usize, pub usize);
-
-impl Part {
-    pub const NOTHING: Part = Part(0, 0);
-}
-
-// The n bytes of v, behind what is there.
-fn put(log: &mut Log, at: usize, n: usize, v: usize) -> Option<usize>
-    requires { n ≤ 8 }
-    ensures { Added log.old at (bytes n v) log.new result }
+// An id, or what stands for none.
+pub fn id_or_absent(id: Option<ValueId>) -> u16
+    ensures { result ≡ first_number id }
 {
-    if MOST - n < at {
-        return None;
+    match id {
+        Some(id) => id.0,
+        None => ABSENT,
     }
-    writer::write(log, at, n, v);
-    Some(at + n)
 }
 
-// A record: its length, its kind, the two bytes that its fields start with, up to three more parts, and so many bytes that are still to
-// come.
+// The n bytes of v, for which there is room; the place behind them.
+fn put(log: &mut Log, at: usize, n: usize, v: usize) -> usize
+    requires { at + n ≤ 32768 }
+    ensures stored { Stored log.old at (bytes n v) log.new result }
+    ensures behind { result ≡ at + n }
+{
+    writer::write(log, at, n, v);
+    at + n
+}
+
+// Ids, for which there is room; the place behind them.
+fn put_ids(log: &mut Log, at: usize, ids: &[ValueId]) -> usize
+    requires { at + 2 * length ids.now ≤ 32768 }
+    ensures { Stored log.old at (id_bytes (ids_of ids.now)) log.new result }
+{
+    let mut to = at;
+    for id in ids {
+        to = put(log, to, 2, id.0 as usize);
+    }
+    to
+}
+
+// A record, if there is room for it: its size, its kind, the two bytes that its fields start with, up to three parts, and ids. The place
+// behind it.
 pub(crate) fn put_record(
     log: &mut Log,
     at: usize,
@@ -37,44 +49,21 @@ pub(crate) fn put_record(
     a: Part,
     b: Part,
     c: Part,
-    more: usize,
-) -> Option<usize>
-    requires { (a.0 ≤ 8) × ((b.0 ≤ 8) × ((c.0 ≤ 8) × (more ≤ 32))) }
-    ensures { Added log.old at (record_bytes kind first a b c more) log.new result }
-{
-    let at = put(log, at, 4, program::OWN + a.0 + b.0 + c.0 + more)?;
-    let at = put(log, at, 2, kind as usize)?;
-    let at = put(log, at, program::ORIGIN, 0)?;
-    let at = put(log, at, 2, first as usize)?;
-    let at = put(log, at, a.0, a.1)?;
-    let at = put(log, at, b.0, b.1)?;
-    put(log, at, c.0, c.1)
-}
-
-// Ids, behind bytes that were just appended.
-fn put_ids(log: &mut Log, at: usize, ids: &[ValueId]) -> Option<usize>
-    ensures { (l x : List ℕ) (from : ℕ) → Added l from x log.old (Some at) → Added l from (x ++ id_bytes (ids_of ids.now)) log.new result }
-{
-    let mut to = at;
-    for id in ids {
-        to = put(log, to, 2, id.0 as usize)?;
-    }
-    Some(to)
-}
-
-// A record of two parts that ends in ids.
-pub(crate) fn put_list(
-    log: &mut Log,
-    at: usize,
-    kind: u16,
-    first: u16,
-    a: Part,
-    b: Part,
     ids: &[ValueId],
 ) -> Option<usize>
-    requires { (a.0 ≤ 8) × ((b.0 ≤ 8) × (length ids.now ≤ 16)) }
-    ensures { Added log.old at (list_bytes kind first a b (ids_of ids.now)) log.new result }
+    requires { length ids.now ≤ 16 }
+    ensures { Added log.old at (record_bytes kind first (part_in a) (part_in b) (part_in c) (ids_of ids.now)) log.new result }
 {
-    let to = put_record(log, at, kind, first, a, b, Part::NOTHING, 2 * ids.len())?;
-    put_ids(log, to, ids)
+    let size = program::OWN + a.width + b.width + c.width + 2 * ids.len();
+    if MOST - size < at {
+        return None;
+    }
+    let to = put(log, at, 4, size);
+    let to = put(log, to, 2, kind as usize);
+    let to = put(log, to, program::ORIGIN, 0);
+    let to = put(log, to, 2, first as usize);
+    let to = put(log, to, a.width, a.number);
+    let to = put(log, to, b.width, b.number);
+    let to = put(log, to, c.width, c.number);
+    Some(put_ids(log, to, ids))
 }

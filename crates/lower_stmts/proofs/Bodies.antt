@@ -1,49 +1,41 @@
 -- The parts of If, While and For, one after the other, in the words of the walk. Assumes nothing.
-use mathlib.Core.Path.{◌≡◌, ap, sym, ◌∙◌}
-use mathlib.Core.Bool.{Bool, true, false}
+use mathlib.Core.Path.{◌≡◌, ap, ◌∙◌}
+use mathlib.Core.List.{List}
 use Prim.Native.Nat.{ℕ, suc, ◌≤◌, ◌<◌}
 use native.Mathlib.Omega.{arith}
 use lib.ListN.{length}
 use Rattle.definitions.specs.Result.{err, ok, ◌>>=◌}
+use Rattle.definitions.specs.ContractSheet.{read_contract}
 use Rattle.definitions.specs.Ast.{Expr, Stmt, Stmts, Contract}
-use Rattle.definitions.specs.Ir.{IrType, Terminator}
+use Rattle.definitions.specs.Ir.{IrType}
 use Rattle.definitions.specs.Lower.{LoweringError, Lowering}
 use Rattle.definitions.proofs.Results.{taking}
 use Rattle.lower_walk.specs.Held.{Held}
 use Rattle.lower_walk.specs.Exprs.{walk_expr_value}
-use Rattle.lower_walk.specs.Stmts.{LogCtx, with_log, Blocks, Bounds, next_arm, terminate_if_open, terminate, switch_to, enter_if, enter_while, two_locals, init_local, for_locals, for_blocks, for_step, walk_stmt, walk_stmts}
-use Rattle.lower_walk.proofs.Grown.{Grown, grown-refl, stmts_grown, local_made}
+use Rattle.lower_walk.specs.Stmts.{LogCtx, with_log, Blocks, Bounds, next_arm, switch_to, enter_if, enter_while, two_locals, init_local, for_locals, for_blocks, for_step, walk_stmt, walk_stmts}
+use Rattle.lower_walk.specs.Grown.{Grown}
+use Rattle.lower_walk.proofs.Grown.{local_made}
 use Rattle.lower_names.specs.HeldNames.{HeldNames, with_name, inside}
-use Rattle.lower_stmts.specs.Bodies.{if_on}
+use Rattle.lower_stmts.specs.Bodies.{if_on, HasRoom}
 
 -- the statements of an arm or a body, as the walk of its sheet has them, and with the names that the code holds
-pub of_sheet : {K₁ K : Contract} (n : ℕ) (es : Held) (xs : Stmts) (c : LogCtx) {r : Lowering LogCtx} → K₁ ≡ K → r ≡ walk_stmts K₁ n es xs c → r ≡ walk_stmts K n es xs c
-of_sheet n es xs c s w = w ∙ ap (λ (K : Contract). walk_stmts K n es xs c) s
+pub of_sheet : {s t : List ℕ} (n : ℕ) (es : Held) (xs : Stmts) (c : LogCtx) {r : Lowering LogCtx} → s ≡ t → r ≡ walk_stmts (read_contract s) n es xs c → r ≡ walk_stmts (read_contract t) n es xs c
+of_sheet n es xs c h w = w ∙ ap (λ (s : List ℕ). walk_stmts (read_contract s) n es xs c) h
 
 pub with_names : (K : Contract) {h₁ h : HeldNames} (xs : Stmts) (c : LogCtx) {r : Lowering LogCtx} → h₁ ≡ h → r ≡ walk_stmts K h₁.scope h₁.held xs c → r ≡ walk_stmts K h.scope h.held xs c
 with_names K xs c q w = w ∙ ap (λ (h : HeldNames). walk_stmts K h.scope h.held xs c) q
-
--- statements lose no block and no local
-pub stmts_end : (K : Contract) (n : ℕ) (es : Held) (xs : Stmts) {c d : LogCtx} → ok d ≡ walk_stmts K n es xs c → Grown c d
-stmts_end K n es xs w = stmts_grown K n es xs (sym w)
-
--- the end of an arm loses no block and no local
-unless_ended : (x : Bool) {c d : LogCtx} → Grown c d → Grown c (elim x [ true ↦ c | false ↦ d ])
-unless_ended true {c} G = grown-refl c
-unless_ended false G = G
-
-pub arm_ended : (target k : ℕ) {c d : LogCtx} → d ≡ next_arm target k c → Grown c d
-unfolding next_arm switch_to terminate_if_open terminate
-arm_ended target k {c} q =
-    let G : Grown c (terminate_if_open (Terminator.Jump target) c) = unless_ended c.ended (record { blocks = omega arith; locals = omega arith }) in
-    rw q (record { blocks = G.blocks; locals = G.locals })
 
 -- what was there before is still there
 pub still_block : {k : ℕ} {c d : LogCtx} → k < c.next_block → Grown c d → k < d.next_block
 still_block h G = omega (arith, h, G.blocks)
 
-pub still_room : {n : ℕ} {c d : LogCtx} → n ≤ length c.locals → Grown c d → n ≤ length d.locals
-still_room h G = omega (arith, h, G.locals)
+-- the same names
+pub still_room : {n : ℕ} {c d : LogCtx} {h h' : HeldNames} → HasRoom c h n → Grown c d → h' ≡ h → HasRoom d h' n
+still_room r G e = rw e (record { locals = omega (arith, r.locals, G.locals); scopes = r.scopes })
+
+-- one more, in the body of a For
+pub body_room : {n : ℕ} {c d e : LogCtx} {h h' : HeldNames} {name local : ℕ} {t : IrType} → HasRoom c h (suc n) → suc (length c.locals) ≤ length d.locals → Grown d e → h' ≡ with_name name local t (inside h) → HasRoom e h' n
+body_room r more G e = rw e (record { locals = omega (arith, r.locals, more, G.locals); scopes = omega (arith, r.scopes) })
 
 module _ (K : Contract) (n : ℕ) (es : Held) where
   -- IF

@@ -1,33 +1,37 @@
 -- What a statement, and statements one after the other, come to. Assumes nothing.
 use mathlib.Core.Path.{◌≡◌, refl, ap, ap₂, ◌∙◌}
 use mathlib.Core.Bool.{true, false}
+use mathlib.Core.List.{List}
 use Prim.Native.Nat.{ℕ, suc}
-use Rattle.std.specs.Prelude.{◌⊎◌, Result, Ok, Err}
+use Rattle.std.specs.Prelude.{◌⊎◌, Result, Ok, Err, Option, None, Some}
 use Rattle.std.proofs.Common.{inl, inr}
-use Rattle.std.proofs.Math.Option.{none}
+use Rattle.definitions.specs.ContractSheet.{read_contract}
 use Rattle.definitions.specs.Result.{err, ok, ◌>>=◌}
-use Rattle.definitions.specs.Ast.{Expr, absent, Stmt, Stmts, snil, scons, OptStmts, no_else, else_do, Contract}
-use Rattle.definitions.specs.Ir.{Terminator}
+use Rattle.definitions.specs.Ast.{Expr, Stmt, Stmts, snil, scons, OptStmts, no_else, else_do, Contract}
 use Rattle.definitions.specs.Lower as lowering
 use Rattle.definitions.specs.Lower.{Lowering}
+use Rattle.contract_nodes.specs.Nodes.{StmtParts}
+use Rattle.contract_nodes.specs.declared.expr.Expr as expr
+use Rattle.contract_nodes.specs.declared.stmt.Stmt as node
+use Rattle.contract_nodes.specs.declared.stmt.StmtNode.TheVariants as stmt
 use Rattle.lower_walk.specs.Held.{Held}
-use Rattle.lower_walk.specs.Stmts.{LogCtx, terminate, walk_return, walk_stmt, walk_stmts, walk_else}
+use Rattle.lower_walk.specs.Stmts.{LogCtx, walk_stmt, walk_stmts, walk_else}
 use Rattle.lower_walk.proofs.Related.{nested}
 use Rattle.lower_names.specs.HeldNames.{HeldNames}
 use Rattle.lower_state.specs.Answers.{done_after}
 use Rattle.lower_state.specs.declared.refusals.LoweringError.{LoweringError}
-use Rattle.lower_simple.specs.Stated.{stated}
+use Rattle.lower_simple.specs.Stated.{stated, OnSheet}
 use Rattle.lower_stmts.specs.Bodies.{if_on}
 
 -- a statement, an If and statements, as the walk of their sheet has them
-pub stmt_of_sheet : {K₁ K : Contract} (n : ℕ) (es : Held) (x : Stmt) (c : LogCtx) {r : Lowering (LogCtx × Held)} → K₁ ≡ K → r ≡ walk_stmt K₁ n es x c → r ≡ walk_stmt K n es x c
-stmt_of_sheet n es x c s w = w ∙ ap (λ (K : Contract). walk_stmt K n es x c) s
+pub stmt_of_sheet : {s t : List ℕ} (n : ℕ) (es : Held) (x : Stmt) (c : LogCtx) {r : Lowering (LogCtx × Held)} → s ≡ t → r ≡ walk_stmt (read_contract s) n es x c → r ≡ walk_stmt (read_contract t) n es x c
+stmt_of_sheet n es x c h w = w ∙ ap (λ (s : List ℕ). walk_stmt (read_contract s) n es x c) h
 
-pub if_of_sheet : {K₁ K : Contract} (n : ℕ) (es : Held) (e : Expr) (a b : Stmts) (c : LogCtx) {r : Lowering LogCtx} → K₁ ≡ K → r ≡ if_on K₁ n es e a b c → r ≡ if_on K n es e a b c
-if_of_sheet n es e a b c s w = w ∙ ap (λ (K : Contract). if_on K n es e a b c) s
+pub if_of_sheet : {s t : List ℕ} (n : ℕ) (es : Held) (e : Expr) (a b : Stmts) (c : LogCtx) {r : Lowering LogCtx} → s ≡ t → r ≡ if_on (read_contract s) n es e a b c → r ≡ if_on (read_contract t) n es e a b c
+if_of_sheet n es e a b c h w = w ∙ ap (λ (s : List ℕ). if_on (read_contract s) n es e a b c) h
 
-pub same_walk : {K₁ K : Contract} {n₁ n : ℕ} (es : Held) (xs : Stmts) (c : LogCtx) → K₁ ≡ K → n₁ ≡ n → walk_stmts K₁ n₁ es xs c ≡ walk_stmts K n es xs c
-same_walk es xs c s q = ap₂ (λ (K : Contract) (n : ℕ). walk_stmts K n es xs c) s q
+pub same_walk : {s t : List ℕ} {m n : ℕ} (es : Held) (xs : Stmts) (c : LogCtx) → s ≡ t → m ≡ n → walk_stmts (read_contract s) m es xs c ≡ walk_stmts (read_contract t) n es xs c
+same_walk es xs c h q = ap₂ (λ (s : List ℕ) (n : ℕ). walk_stmts (read_contract s) n es xs c) h q
 
 -- IF: an arm that is absent is one without statements
 abbrev Arms : OptStmts → Stmts → Type 0
@@ -52,19 +56,20 @@ if_stated K n {p = p} {q} {e} {a} {b} {arms} h h' c c' r i o w same = rw i (name
     named (Ok u) e = ap (λ (h : HeldNames). ok (c', h.held)) e
     named (Err x) e = refl
 
+-- a Return's value is of its sheet
+pub on_sheet : (t : node.Stmt) (value : Option expr.Expr) → StmtParts t (stmt.Return value) → OnSheet t.contract value
+on_sheet t None parts = tt
+on_sheet t (Some e) parts = parts.0
+
 -- the statements behind one
 rest_on : Contract → ℕ → Stmts → LogCtx × Held → Lowering LogCtx
 rest_on K n ss y = walk_stmts K n y.1 ss y.0
 
 module _ (K : Contract) (n : ℕ) (es : Held) (c : LogCtx) where
-  -- A MAPPING WRITE, and a Return without a value
+  -- A MAPPING WRITE
   pub mapping_refused : {s : Stmt} {p name : ℕ} {k e : Expr} → s ≡ Stmt.MappingWrite p name k e → err lowering.LoweringError.MappingWrite ≡ walk_stmt K n es s c
   unfolding walk_stmt
   mapping_refused i = rw i refl
-
-  pub returned : {s : Stmt} {p : ℕ} {d : LogCtx} → s ≡ Stmt.Return p absent → d ≡ terminate (Terminator.Return none) c → ok (d, es) ≡ walk_stmt K n es s c
-  unfolding walk_stmt walk_return
-  returned i q = rw (i, q) refl
 
   -- STATEMENTS
   module _ {xs : Stmts} where

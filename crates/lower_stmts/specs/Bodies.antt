@@ -1,5 +1,5 @@
 -- What lowering arms and bodies does, in the words of the walk. Assumes nothing: these are definitions.
-use Rattle.std.specs.Prelude.{ℕ, suc, ◌≡◌, ◌++◌}
+use Rattle.std.specs.Prelude.{ℕ, suc, ◌+◌, ◌≤◌, ◌≡◌, ◌++◌, length}
 use Rattle.definitions.specs.Ast as ast
 use Rattle.definitions.specs.Ast.{Contract}
 use Rattle.definitions.specs.Result.{ok, ◌>>=◌}
@@ -10,6 +10,11 @@ use Rattle.contract_nodes.specs.declared.stmt.Stmts.{Stmts}
 use Rattle.lower_walk.specs.Held.{Held}
 use Rattle.lower_walk.specs.Stmts.{LogCtx, enter_if, walk_stmts, next_arm}
 use Rattle.lower_names.specs.HeldNames.{HeldNames}
+
+-- each name that is held has a local, and statements so deep open at most 40 scopes
+pub record HasRoom (c : LogCtx) (h : HeldNames) (deep : ℕ) : Type 0 where
+  pub locals : length h.held ≤ length c.locals
+  pub scopes : h.scope + deep ≤ 40
 
 -- an expression and statements of one sheet
 abbrev pub OneSheet : Expr → Stmts → Type 0

@@ -1,27 +1,32 @@
 // Statements: `lower_stmt` recurses into arms and bodies, and the depth left falls.
+//
+// `ctx` and `scopes` are two parameters: an expression is given `&Scopes`, and so its type says that no name changes. In one struct each promise
+// would have to say it. `HasRoom` relates the two, so that neither's invariant can have it.
+// `OneSheet`: each node knows its own sheet. A struct for the nodes of each statement would be three types for one clause each.
 #![tactic(auto)]
 
-ghost use Rattle.std.specs.Prelude.{◌≡◌, ℕ, ◌+◌, ◌≤◌, suc, length};
+ghost use Rattle.std.specs.Prelude.{◌≡◌, ℕ, suc};
 ghost use Rattle.contract_nodes.specs.Nodes.{contract_in, stmt_in, stmts_in};
 ghost use Rattle.lower_walk.specs.Stmts.{walk_stmts};
+ghost use Rattle.lower_walk.specs.Grown.{Grown};
 ghost use Rattle.lower_state.specs.Answers.{done_after};
 ghost use Rattle.lower_simple.specs.Stated.{stated, stmt_on};
-ghost use Rattle.lower_stmts.specs.Bodies.{OneSheet, if_nodes, while_of, for_of, Extends};
+ghost use Rattle.lower_stmts.specs.Bodies.{HasRoom, OneSheet, if_nodes, while_of, for_of, Extends};
 
 use contract_nodes::{Expr, Stmt, StmtNode, Stmts};
 use ir::{IrType, Name};
 use lower_control::{enter_if, enter_while, for_blocks, for_locals, leave_for};
-use lower_flow::{next_arm, return_none};
+use lower_flow::next_arm;
 use lower_names::Scopes;
 use lower_state::{FnCtx, LoweringError};
 
 // An arm or a body, in a scope of its own.
 #[cycle(stmts)]
 fn lower_body(ctx: &mut FnCtx, scopes: &mut Scopes, body: Stmts) -> Result<(), LoweringError>
-    requires room { length scopes.old.held ≤ length ctx.old.locals }
-    requires depth { scopes.old.scope + 1 + body.depth ≤ 40 }
+    requires { HasRoom ctx.old scopes.old (suc body.depth) }
     ensures is { done_after ctx.new result ≡ walk_stmts (contract_in body.entry.contract) (suc scopes.old.scope) scopes.old.held (stmts_in body.entry) ctx.old }
     ensures same_names { scopes.new ≡ scopes.old }
+    ensures grown { Grown ctx.old ctx.new }
 {
     let mark = scopes.len();
     scopes.push_scope();
@@ -39,11 +44,11 @@ fn lower_if(
     then: Stmts,
     otherwise: Stmts,
 ) -> Result<(), LoweringError>
-    requires room { length scopes.old.held ≤ length ctx.old.locals }
-    requires depth { (scopes.old.scope + 1 + then.depth ≤ 40) × (scopes.old.scope + 1 + otherwise.depth ≤ 40) }
+    requires room { HasRoom ctx.old scopes.old (suc then.depth) × HasRoom ctx.old scopes.old (suc otherwise.depth) }
     requires one_sheet { OneSheet condition then × OneSheet condition otherwise }
     ensures is { done_after ctx.new result ≡ if_nodes condition.entry then.entry otherwise.entry scopes.old ctx.old }
     ensures same_names { scopes.new ≡ scopes.old }
+    ensures grown { Grown ctx.old ctx.new }
 {
     let blocks = enter_if(ctx, scopes, condition)?;
     let merge = blocks.third;
@@ -62,11 +67,11 @@ fn lower_while(
     condition: Expr,
     body: Stmts,
 ) -> Result<(), LoweringError>
-    requires room { length scopes.old.held ≤ length ctx.old.locals }
-    requires depth { scopes.old.scope + 1 + body.depth ≤ 40 }
+    requires room { HasRoom ctx.old scopes.old (suc body.depth) }
     requires one_sheet { OneSheet condition body }
     ensures is { (p q : ℕ) → stated ctx.new scopes.old result ≡ stmt_on condition.entry.contract scopes.old (while_of p q condition.entry body.entry) ctx.old }
     ensures same_names { scopes.new ≡ scopes.old }
+    ensures grown { Grown ctx.old ctx.new }
 {
     let blocks = enter_while(ctx, scopes, condition)?;
     lower_body(ctx, scopes, body)?;
@@ -84,11 +89,11 @@ fn lower_for(
     end: Expr,
     body: Stmts,
 ) -> Result<(), LoweringError>
-    requires room { length scopes.old.held ≤ length ctx.old.locals }
-    requires depth { scopes.old.scope + 1 + body.depth ≤ 40 }
+    requires room { HasRoom ctx.old scopes.old (suc body.depth) }
     requires one_sheet { (end.contract.sheet.now ≡ start.contract.sheet.now) × OneSheet start body }
     ensures is { (p q : ℕ) → stated ctx.new scopes.old result ≡ stmt_on start.entry.contract scopes.old (for_of p q name.0 start.entry end.entry body.entry) ctx.old }
     ensures same_names { scopes.new ≡ scopes.old }
+    ensures grown { Grown ctx.old ctx.new }
 {
     let bounds = for_locals(ctx, scopes, start, end)?;
     let blocks = for_blocks(ctx, bounds)?;
@@ -105,10 +110,10 @@ fn lower_for(
 // A statement, in a block that is not terminated.
 #[cycle(stmts)]
 fn lower_stmt(ctx: &mut FnCtx, scopes: &mut Scopes, t: Stmt) -> Result<(), LoweringError>
-    requires room { length scopes.old.held ≤ length ctx.old.locals }
-    requires depth { scopes.old.scope + t.depth ≤ 40 }
+    requires { HasRoom ctx.old scopes.old t.depth }
     ensures is { stated ctx.new scopes.new result ≡ stmt_on t.entry.contract scopes.old (stmt_in t.entry) ctx.old }
     ensures names { Extends scopes.old scopes.new }
+    ensures grown { Grown ctx.old ctx.new }
 {
     match t.node() {
         StmtNode::Let(name, e) => {
@@ -125,11 +130,7 @@ fn lower_stmt(ctx: &mut FnCtx, scopes: &mut Scopes, t: Stmt) -> Result<(), Lower
         }
         StmtNode::While(condition, body) => lower_while(ctx, scopes, condition, body),
         StmtNode::For(name, start, end, body) => lower_for(ctx, scopes, name, start, end, body),
-        StmtNode::Return(None) => {
-            return_none(ctx);
-            Ok(())
-        }
-        StmtNode::Return(Some(e)) => lower_simple::lower_return(ctx, scopes, e),
+        StmtNode::Return(value) => lower_simple::lower_return(ctx, scopes, value),
         StmtNode::Emit(event, args) => lower_simple::lower_emit(ctx, scopes, event, args),
         StmtNode::Expr(e) => lower_simple::lower_expr_stmt(ctx, scopes, e),
     }
@@ -138,10 +139,10 @@ fn lower_stmt(ctx: &mut FnCtx, scopes: &mut Scopes, t: Stmt) -> Result<(), Lower
 // The statements of a function, an arm or a body. Those after a terminator are skipped.
 #[cycle(stmts)]
 pub fn lower_stmts(ctx: &mut FnCtx, scopes: &mut Scopes, body: Stmts) -> Result<(), LoweringError>
-    requires room { length scopes.old.held ≤ length ctx.old.locals }
-    requires depth { scopes.old.scope + body.depth ≤ 40 }
+    requires { HasRoom ctx.old scopes.old body.depth }
     ensures is { done_after ctx.new result ≡ walk_stmts (contract_in body.entry.contract) scopes.old.scope scopes.old.held (stmts_in body.entry) ctx.old }
     ensures names { Extends scopes.old scopes.new }
+    ensures grown { Grown ctx.old ctx.new }
 {
     for t in body {
         if ctx.is_ended() {

@@ -5,29 +5,33 @@ use mathlib.Core.List.{List}
 use mathlib.Core.Option.{Option, none, some}
 use Prim.Native.Nat.{ℕ}
 use lib.Dec.{eqb}
+use Rattle.std.specs.Prelude as prelude
+use Rattle.std.specs.Option.{option_map, ok_or}
 use Rattle.definitions.specs.Ast.{Function, Contract}
 use Rattle.definitions.specs.Ir.{IrType, Instruction}
 use Rattle.definitions.specs.Lower as defs
-use Rattle.definitions.specs.Lower.{LoweringError, Lowering, context_fn, poseidon_fn, merkle_proof_fn, user_fn, callee, two_of}
-use Rattle.definitions.specs.Result.{err, ok, ◌>>=◌}
+use Rattle.definitions.specs.Lower.{Lowering, context_fn, poseidon_fn, merkle_proof_fn, user_fn, callee, two_of}
+use Rattle.definitions.specs.Result.{ok, ◌>>=◌}
 use Rattle.definitions.specs.Sema.{function_named}
 use Rattle.format.specs.declared.program.ContextKind.{ContextKind}
-use Rattle.contract_lookup.specs.Answers.{id_named}
+use Rattle.ir.specs.Answers.{option_of, result_of}
+use Rattle.ir.specs.declared.Name.{Name}
+use Rattle.contract_lookup.specs.Answers.{id_named, signature_of}
+use Rattle.contract_lookup.specs.declared.symbols.Signature.{Signature}
+use Rattle.lower_state.specs.Errors.{error_of}
+use Rattle.lower_state.specs.declared.refusals.LoweringError.TheVariants as refusal
 use Rattle.lower_walk.specs.Log.{Log}
 use Rattle.lower_walk.specs.Exprs.{push_value, walk_call}
-use Rattle.lower_values.specs.Calls.{user_call, poseidon_call, resolve_user, resolve_fn, resolve, finish_call, with_arguments}
+use Rattle.lower_values.specs.Calls.{poseidon_call, resolve_user, resolve_fn, resolve, finish_call, with_arguments}
 use Rattle.lower_values.specs.Values.{called_of}
 use Rattle.lower_values.specs.declared.calls.Callee.{Callee}
 use Rattle.lower_values.specs.declared.calls.Callee.TheVariants as code
 
--- WHAT IS CALLED: a function of the contract
-pub declared : (K : Contract) (n : ℕ) {f : ℕ} {t : IrType} → id_named K n ≡ some (f, t) → resolve_user K n ≡ ok (user_call f t)
+-- WHAT IS CALLED: a function of the contract, by its signature
+pub by_signature : (K : Contract) (n : Name) (o : prelude.Option Signature) → option_of signature_of o ≡ id_named K n.0 → result_of error_of called_of (ok_or (option_map (λ s. code.User s.function s.ret) o) (refusal.UndefinedFunction n)) ≡ resolve_user K n.0
 unfolding resolve_user
-declared K n e = rw e
-
-pub not_declared : (K : Contract) (n : ℕ) → id_named K n ≡ none → resolve_user K n ≡ err (LoweringError.UndefinedFunction n)
-unfolding resolve_user
-not_declared K n e = rw e
+by_signature K n prelude.None h = rw (← h) refl
+by_signature K n (prelude.Some s) h = rw (← h) refl
 
 -- THE CALL, once the code's answer is taken apart
 pub called_as : (args : List ℕ) (c : Log) {k x : Callee} → k ≡ x → finish_call (called_of k) args c ≡ finish_call (called_of x) args c

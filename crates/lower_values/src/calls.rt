@@ -29,8 +29,9 @@ pub enum Callee {
 fn user_callee(contract: Contract, name: Name) -> Result<Callee, LoweringError>
     ensures { result_of error_of called_of result ≡ resolve_user (contract_in contract.entry) name.0 }
 {
-    let called = signature_named(contract, name).ok_or(LoweringError::UndefinedFunction(name))?;
-    Ok(Callee::User(called.function, called.ret))
+    signature_named(contract, name)
+        .map(|called| Callee::User(called.function, called.ret))
+        .ok_or(LoweringError::UndefinedFunction(name))
 }
 
 // What a name stands for in a call with so many arguments, in the order of `lower_call`.
@@ -66,7 +67,8 @@ fn call_user(ctx: &mut FnCtx, function: FunctionId, ty: IrType, args: &Args) -> 
     Some((emit_call(ctx, function, ty, args), ty))
 }
 
-// The call itself, with the values of its arguments.
+// The call itself, with the values of its arguments. The promise is for any list of arguments, and so a Poseidon is refused here too if they are not
+// two; behind `callee_named` they are.
 pub fn finish_call(
     ctx: &mut FnCtx,
     callee: Callee,

@@ -1,4 +1,5 @@
 // What an expression comes to, once the values of its parts are known: expressions without expressions in them, operators, fields and calls.
+// `LogAlone` stands beside the equation, which of a refused lowering says the error and nothing of the state.
 #![tactic(auto)]
 
 use ir::{IrType, ValueId};

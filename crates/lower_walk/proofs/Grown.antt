@@ -1,6 +1,6 @@
 -- The walk loses no block and no local, and each name that is held has a local of its own. Assumes nothing.
 use Prim.Native.Nat.{ℕ, suc, ◌+◌, ◌%◌, ◌≤◌, ◌<◌}
-use mathlib.Core.Path.{◌≡◌, subst}
+use mathlib.Core.Path.{◌≡◌, refl, ap, subst, ◌∙◌}
 use mathlib.Core.List.{List, [], ◌∷◌, ◌++◌}
 use mathlib.Core.Bool.{Bool, true, false}
 use lib.Dec.{leb, ltb}
@@ -12,21 +12,36 @@ use Rattle.definitions.specs.Ast.{Expr, OptExpr, absent, present, Stmt, Stmts, s
 use Rattle.definitions.specs.Ir.{IrType, Terminator}
 use Rattle.definitions.specs.Lower.{LoweringError, Lowering, in_scope, storage_named, parse_ir_type}
 use Rattle.definitions.proofs.Results.{ok_inj, err_ok, by_test}
-use Rattle.lower_walk.specs.Log.{counted}
+use Rattle.lower_walk.specs.Log.{Log, counted}
 use Rattle.lower_walk.specs.Held.{Held, names}
 use Rattle.lower_walk.specs.Exprs.{walk_expr, walk_expr_value, walk_args}
 use Rattle.lower_walk.specs.Stmts.{LogCtx, with_log, terminate_if_open, Blocks, Bounds, init_local, three_blocks, next_arm, enter_if, while_header, enter_while, two_locals, for_locals, for_blocks, for_header, for_next, for_step, terminate, switch_to, walk_return, walk_stmt, walk_stmts, walk_else}
+use Rattle.lower_walk.specs.Grown.{Grown}
 use Rattle.lower_walk.specs.Layout.{walk_params}
 
-pub record Grown (c d : LogCtx) : Type 0 where
-  pub blocks : c.next_block ≤ d.next_block
-  pub locals : length c.locals ≤ length d.locals
+pub grown-trans : {c d e : LogCtx} → Grown c d → Grown d e → Grown c e
+grown-trans G H = record { function = G.function ∙ H.function; blocks = omega (arith, G.blocks, H.blocks); locals = omega (arith, G.locals, H.locals) }
+
+-- ---- no block is made and no local
+kept : {c d : LogCtx} → c.fid ≡ d.fid → c.next_block ≡ d.next_block → c.locals ≡ d.locals → Grown c d
+kept function blocks locals = record { function = function; blocks = omega (arith, blocks); locals = omega (arith, ap length locals) }
 
 pub grown-refl : (c : LogCtx) → Grown c c
-grown-refl c = record { blocks = omega arith; locals = omega arith }
+grown-refl c = kept refl refl refl
 
-pub grown-trans : {c d e : LogCtx} → Grown c d → Grown d e → Grown c e
-grown-trans G H = record { blocks = omega (arith, G.blocks, H.blocks); locals = omega (arith, G.locals, H.locals) }
+pub unchanged : {c d : LogCtx} → d ≡ c → Grown c d
+unchanged e = rw e (grown-refl _)
+
+pub log_grown : (c : LogCtx) {d : LogCtx} {l : Log} → d ≡ with_log l c → Grown c d
+log_grown c e = rw e (kept refl refl refl)
+
+pub ended_grown : (t : Terminator) (c : LogCtx) {d : LogCtx} → d ≡ terminate t c → Grown c d
+unfolding terminate
+ended_grown t c e = rw e (kept refl refl refl)
+
+pub switch_grown : (k : ℕ) (c : LogCtx) {d : LogCtx} → d ≡ switch_to k c → Grown c d
+unfolding switch_to
+switch_grown k c e = rw e (kept refl refl refl)
 
 -- ---- what holds of a computation's answer, if it gives one
 data Gives {A : Type 0} (P : A → Type 0) : Lowering A → Type 0 where
@@ -61,14 +76,14 @@ local_given t v c =
     by_test (ltb (length c.locals) 256)
     (λ q.
     let more : length (c.locals ++ (t ∷ [])) ≡ length c.locals + 1 = length-append c.locals (t ∷ []) in
-    rw q (gave (record { blocks = omega arith; locals = omega (arith, more) }, omega (arith, more), ltb-true (length c.locals) 256 q)))
+    rw q (gave (record { function = refl; blocks = omega arith; locals = omega (arith, more) }, omega (arith, more), ltb-true (length c.locals) 256 q)))
     (λ q. rw q (fails _))
 
 blocks_given : (c : LogCtx) → Gives (λ p. BlocksMade c p.0 p.1) (three_blocks c)
 unfolding three_blocks
 blocks_given c =
     by_test (leb (c.next_block + 3) 256)
-    (λ q. rw q (gave (record { blocks = omega arith; locals = omega arith }, omega arith, omega arith, omega arith)))
+    (λ q. rw q (gave (record { function = refl; blocks = omega arith; locals = omega arith }, omega arith, omega arith, omega arith)))
     (λ q. rw q (fails _))
 
 pub local_made : (t : IrType) (v : ℕ) {l : ℕ} {c d : LogCtx} → init_local t v c ≡ ok (d, l) → LocalMade c d
@@ -84,15 +99,24 @@ unless_ended false G = G
 
 closed : (t : Terminator) (c : LogCtx) → Grown c (terminate_if_open t c)
 unfolding terminate_if_open terminate
-closed t c = unless_ended c.ended (record { blocks = omega arith; locals = omega arith })
+closed t c = unless_ended c.ended (ended_grown t c refl)
+
+pub ends_grown : (t : Terminator) (c : LogCtx) {d : LogCtx} → d ≡ terminate_if_open t c → Grown c d
+ends_grown t c e = rw e (closed t c)
 
 armed : (target k : ℕ) (c : LogCtx) → Grown c (next_arm target k c)
-unfolding next_arm switch_to
-armed target k c = let G : Grown c (terminate_if_open (Terminator.Jump target) c) = closed (Terminator.Jump target) c in record { blocks = G.blocks; locals = G.locals }
+unfolding next_arm
+armed target k c = let d : LogCtx = terminate_if_open (Terminator.Jump target) c in grown-trans (closed (Terminator.Jump target) c) (switch_grown k d refl)
 
-stepped : (i header : ℕ) (c : LogCtx) → Grown c (for_step i header c)
+pub arm_grown : (target k : ℕ) (c : LogCtx) {d : LogCtx} → d ≡ next_arm target k c → Grown c d
+arm_grown target k c e = rw e (armed target k c)
+
+stepped : (i header exit : ℕ) (c : LogCtx) → Grown c (switch_to exit (for_step i header c))
 unfolding for_step for_next terminate
-stepped i header c = unless_ended c.ended (record { blocks = omega arith; locals = omega arith })
+stepped i header exit c = grown-trans (unless_ended c.ended (kept refl refl refl)) (switch_grown exit (for_step i header c) refl)
+
+pub step_grown : (i header exit : ℕ) (c : LogCtx) {d : LogCtx} → d ≡ switch_to exit (for_step i header c) → Grown c d
+step_grown i header exit c e = rw e (stepped i header exit c)
 
 -- ---- the parts of If, While and For
 module _ (K : Contract) (es : Held) where
@@ -101,14 +125,14 @@ module _ (K : Contract) (es : Held) where
   if_given e c =
       anyhow (walk_expr_value K es e c.log) _ λ v.
       then _ (blocks_given (with_log v.0 c)) λ p G.
-      gave (record { blocks = G.0.blocks; locals = G.0.locals }, G.1, G.2, G.3)
+      gave (record { function = G.0.function; blocks = G.0.blocks; locals = G.0.locals }, G.1, G.2, G.3)
 
   while_given : (e : Expr) (c : LogCtx) → Gives (λ p. BlocksMade c p.0 p.1) (enter_while K es e c)
   unfolding enter_while while_header terminate switch_to
   while_given e c =
       then _ (blocks_given c) λ p G.
       anyhow (walk_expr_value K es e _) _ λ v.
-      gave (record { blocks = G.0.blocks; locals = G.0.locals }, G.1, G.2, G.3)
+      gave (record { function = G.0.function; blocks = G.0.blocks; locals = G.0.locals }, G.1, G.2, G.3)
 
   locals_given : (start end : Expr) (c : LogCtx) → Gives (λ p. Grown c p.0 × (suc (length c.locals) ≤ length p.0.locals)) (for_locals K es start end c)
   unfolding for_locals two_locals
@@ -117,13 +141,13 @@ module _ (K : Contract) (es : Held) where
       anyhow (walk_expr_value K es end v.0) _ λ w.
       then _ (local_given IrType.U64 v.1.0 (with_log w.0 c)) λ p G.
       then _ (local_given IrType.U64 w.1.0 p.0) λ q H.
-      gave (record { blocks = omega (arith, G.0.blocks, H.0.blocks); locals = omega (arith, G.0.locals, H.0.locals) }, omega (arith, G.1, H.0.locals))
+      gave (grown-trans (log_grown c refl) (grown-trans G.0 H.0), omega (arith, G.1, H.0.locals))
 
 for_given : (i : Bounds) (c : LogCtx) → Gives (λ p. BlocksMade c p.0 p.1) (for_blocks i c)
 unfolding for_blocks for_header terminate switch_to
 for_given i c =
     then _ (blocks_given c) λ p G.
-    gave (record { blocks = G.0.blocks; locals = G.0.locals }, G.1, G.2, G.3)
+    gave (record { function = G.0.function; blocks = G.0.blocks; locals = G.0.locals }, G.1, G.2, G.3)
 
 pub if_entered : (K : Contract) (es : Held) (e : Expr) {c d : LogCtx} {b : Blocks} → enter_if K es e c ≡ ok (d, b) → BlocksMade c d b
 if_entered K es e {c} q = given (if_given K es e c) q
@@ -150,8 +174,8 @@ same_names G = gave (G, λ r. omega (arith, r, G.locals))
 
 return_given : (K : Contract) (es : Held) (x : OptExpr) (c : LogCtx) → Gives (Grown c) (walk_return K es x c)
 unfolding walk_return terminate
-return_given K es absent c = gave (record { blocks = omega arith; locals = omega arith })
-return_given K es (present e) c = anyhow (walk_expr_value K es e c.log) _ λ v. gave (record { blocks = omega arith; locals = omega arith })
+return_given K es absent c = gave (kept refl refl refl)
+return_given K es (present e) c = anyhow (walk_expr_value K es e c.log) _ λ v. gave (kept refl refl refl)
 
 then_grown : {c d : LogCtx} {r : Lowering LogCtx} → Grown c d → Gives (Grown d) r → Gives (Grown c) r
 then_grown G (fails x) = fails x
@@ -170,18 +194,18 @@ module _ (K : Contract) where
     stmt_given n es (Stmt.Let p name e) c =
         anyhow (walk_expr_value K es e c.log) _ λ v.
         then _ (local_given v.1.1 v.1.0 (with_log v.0 c)) λ p G.
-        gave (record { blocks = G.0.blocks; locals = G.0.locals }, λ r. omega (arith, r, G.1))
+        gave (record { function = G.0.function; blocks = G.0.blocks; locals = G.0.locals }, λ r. omega (arith, r, G.1))
     stmt_given n es (Stmt.Assign p name e) c =
         anyhow (walk_expr_value K es e c.log) _ λ v.
         anyhow (ok_or_else (in_scope name (names es)) (LoweringError.UndefinedVariable name)) _ λ i.
-        same_names (record { blocks = omega arith; locals = omega arith })
+        same_names (kept refl refl refl)
     stmt_given n es (Stmt.Constrain p e) c =
         anyhow (walk_expr_value K es e c.log) _ λ v.
-        same_names (record { blocks = omega arith; locals = omega arith })
+        same_names (kept refl refl refl)
     stmt_given n es (Stmt.StorageWrite p name e) c =
         anyhow (ok_or_else (storage_named K name) (LoweringError.UndefinedVariable name)) _ λ i.
         anyhow (walk_expr_value K es e c.log) _ λ v.
-        same_names (record { blocks = omega arith; locals = omega arith })
+        same_names (kept refl refl refl)
     stmt_given n es (Stmt.If p e pt thenBody elseBody) c =
         then _ (if_given K es e c) λ p G.
         then _ (stmts_given (suc n) es thenBody p.0) λ d H.
@@ -195,16 +219,14 @@ module _ (K : Contract) where
         then _ (locals_given K es start end c) λ i L.
         then _ (for_given i.1 i.0) λ p G.
         then _ (stmts_given (suc n) _ body p.0) λ d H.
-        let S : Grown d (for_step i.1.loop p.1.first d) = stepped i.1.loop p.1.first d in
-        let T : Grown c (for_step i.1.loop p.1.first d) = grown-trans L.0 (grown-trans G.0 (grown-trans H S)) in
-        same_names (record { blocks = T.blocks; locals = T.locals })
+        same_names (grown-trans L.0 (grown-trans G.0 (grown-trans H (stepped i.1.loop p.1.first p.1.third d))))
     stmt_given n es (Stmt.Return p e) c = then _ (return_given K es e c) λ d G. same_names G
     stmt_given n es (Stmt.Emit p name args) c =
         anyhow (walk_args K es args c.log) _ λ v.
-        same_names (record { blocks = omega arith; locals = omega arith })
+        same_names (kept refl refl refl)
     stmt_given n es (Stmt.ExprStmt p e) c =
         anyhow (walk_expr K es e c.log) _ λ v.
-        same_names (record { blocks = omega arith; locals = omega arith })
+        same_names (kept refl refl refl)
     stmt_given n es (Stmt.MappingWrite p name k e) c = fails _
 
     stmts_given : (n : ℕ) (es : Held) (xs : Stmts) (c : LogCtx) → Gives (Grown c) (walk_stmts K n es xs c)
@@ -218,17 +240,8 @@ module _ (K : Contract) where
     else_given n es no_else c = gave (grown-refl c)
     else_given n es (else_do p xs) c = stmts_given n es xs c
 
-  pub stmt_grown : (n : ℕ) (es : Held) (x : Stmt) {es' : Held} {c d : LogCtx} → walk_stmt K n es x c ≡ ok (d, es') → Grown c d
-  stmt_grown n es x {c = c} q = (given (stmt_given n es x c) q).0
-
   pub stmt_room : (n : ℕ) (es : Held) (x : Stmt) (c : LogCtx) {es' : Held} {d : LogCtx} → walk_stmt K n es x c ≡ ok (d, es') → Room es c → Room es' d
   stmt_room n es x c q = (given (stmt_given n es x c) q).1
-
-  pub stmts_grown : (n : ℕ) (es : Held) (xs : Stmts) {c d : LogCtx} → walk_stmts K n es xs c ≡ ok d → Grown c d
-  stmts_grown n es xs {c} q = given (stmts_given n es xs c) q
-
-  pub else_grown : (n : ℕ) (es : Held) (xs : OptStmts) {c d : LogCtx} → walk_else K n es xs c ≡ ok d → Grown c d
-  else_grown n es xs {c} q = given (else_given n es xs c) q
 
 -- ---- parameters
 -- n names are held behind the first step
@@ -241,12 +254,9 @@ unfolding walk_params
 params_given [] es c = same_names (grown-refl c)
 params_given (p ∷ ps) es c =
     then _ (local_given (parse_ir_type p.ty) c.log.value (with_log (counted (suc c.log.value % 65536) c.log) c)) λ q G.
-    let grown : Grown c q.0 = record { blocks = G.0.blocks; locals = G.0.locals } in
+    let grown : Grown c q.0 = record { function = G.0.function; blocks = G.0.blocks; locals = G.0.locals } in
     let room : Room es c → suc (length es) ≤ length q.0.locals = λ r. omega (arith, r, G.1) in
     kept_on es (suc (length es)) grown room (params_given ps _ q.0)
-
-pub params_grown : (ps : List Param) (es : Held) {es' : Held} {c d : LogCtx} → walk_params ps es c ≡ ok (d, es') → Grown c d
-params_grown ps es {c = c} q = (given (params_given ps es c) q).0
 
 pub params_room : (ps : List Param) (es : Held) (c : LogCtx) {es' : Held} {d : LogCtx} → walk_params ps es c ≡ ok (d, es') → Room es c → Room es' d
 params_room ps es c q = (given (params_given ps es c) q).1

@@ -1,5 +1,5 @@
 -- What a cell holds after a store: the cell itself, and every cell apart from it. Assumes nothing.
-use mathlib.Core.Path.{◌≡◌, refl, ap, ◌∙◌}
+use mathlib.Core.Path.{◌≡◌, refl, ◌∙◌}
 use mathlib.Core.List.{List, [], ◌∷◌}
 use mathlib.Core.Logic.{◌⊎◌, inl, inr, ⊎_elim}
 use mathlib.Core.Option.{none, some}
@@ -7,7 +7,6 @@ use Prim.Native.Nat.{ℕ, zero, suc, ◌+◌, ◌-◌, ◌^◌, ◌≤◌, ◌<�
 use native.Mathlib.Numerals.{add-one}
 use native.Mathlib.Nat.{add-zero}
 use native.Mathlib.Omega.{arith}
-use borrow.Author.Tests.{ne_eqb}
 use lib.ListN.{length, get_or, set, length-set, replicate, length-replicate, get_or-replicate}
 use lib.Seq.{sets, length-sets, get_or-set_same, get_or-set_other}
 use Rattle.definitions.specs.Fields.{le, bytes}
@@ -44,15 +43,6 @@ le_same (suc n) a b p h =
     let x : get_or a p 0 ≡ get_or b p 0 = h p (omega arith) (omega arith) in
     let y : le n a (p + 1) ≡ le n b (p + 1) = le_same n a b (p + 1) (λ k i j. h k (omega arith) (omega arith)) in
     rw (x, y)
-
--- WHAT A READ TELLS
-pub is_unset : (m : List ℕ) (p : ℕ) → get_or m (p + word_width) 0 ≡ 0 → none ≡ cell m p
-unfolding cell
-is_unset m p e = rw e
-
-pub is_set : (m : List ℕ) (p w : ℕ) → (get_or m (p + word_width) 0 ≡ 0 → ⊥) → w ≡ le word_width m p → some w ≡ cell m p
-unfolding cell
-is_set m p w n e = rw (ne_eqb (get_or m (p + word_width) 0) 0 n) (ap some e)
 
 -- TWO MEMORIES THAT AGREE ON A CELL
 pub agree : (a b : List ℕ) (p : ℕ) → ((k : ℕ) → p ≤ k → k < p + cell_width → get_or a k 0 ≡ get_or b k 0) → cell a p ≡ cell b p

@@ -1,4 +1,5 @@
 // Working memory in lent bytes, a cell for each word: the word, little-endian, and a byte that is 0 where the word is unset.
+// Unset is a byte, and no Option: memory is lent as bytes, there is no heap.
 #![tactic(auto)]
 
 ghost use Rattle.std.specs.Prelude.{◌≡◌, ◌+◌, ◌≤◌, length};

@@ -5,7 +5,7 @@ ghost use Rattle.machine_outside.specs.Outside.{TakesWord, context_of};
 
 use format::program::ContextKind;
 
-// The outside results, and how many of them are used.
+// The outside results, and how many of them are used. No slice that gets shorter: the promises say that what is left is of the same words.
 #[derive(Clone, Copy, Debug)]
 pub struct Outside<'a> {
     pub words: &'a [u64],

@@ -8,7 +8,8 @@ use native.Mathlib.Omega.{arith}
 use borrow.Author.Tests.{lt-ltb, le-ltb, ltb-true, ltb-false}
 use lib.Dec.{eqb, ltb, leb}
 use lib.ListN.{length, length-append}
-use Rattle.std.specs.Prelude.{Result, Ok, Err, IsErr, IsErrAnd}
+use Rattle.std.specs.Prelude.{Result, Ok, Err}
+use Rattle.std.specs.Bool.{then_some}
 use Rattle.std.specs.Result.{result_err}
 use Rattle.ir.specs.Answers.{option_of}
 use Rattle.definitions.proofs.Results.{by_test}
@@ -110,11 +111,6 @@ not_in v (x ∷ xs) i h =
     let k : suc (length xs) ≤ suc (index_of v xs) = rw (q, index_of) at h in
     rw (q, searched) (not_in v xs (with_one i x) (omega arith)))
 
--- what a `?` gives back
-pub handed_back : {A E : Type 0} (p : E) (r : Result A E) → IsErr r × IsErrAnd r (λ (e : E). e ≡ p) → r ≡ Err p
-handed_back p (Ok a) h = absurd h.1
-handed_back p (Err e) h = ap Err h.1
-
 same_ok : {a b : Tally} → ◌≡◌ {A = Result Tally ℕ} (Ok a) (Ok b) → a ≡ b
 same_ok {a} {b} e = ap (λ (r : Result Tally ℕ). elim r [ Ok x ↦ x | Err p ↦ a ]) e
 
@@ -123,11 +119,14 @@ pub tally_is : {r : Result Tally ℕ} {t : Tally} (xs : List ℕ) → r ≡ sear
 tally_is xs e z = same_ok (sym z ∙ (e ∙ all_counted xs))
 
 -- THE SLOT by what is read
-pub one_in : (n i : ℕ) → i < n → some i ≡ one_of n i
+one_in : (n i : ℕ) → i < n → some i ≡ one_of n i
 one_in n i h = rw (lt-ltb i n h)
 
-pub one_out : (n i : ℕ) → n ≤ i → none ≡ one_of n i
+one_out : (n i : ℕ) → n ≤ i → none ≡ one_of n i
 one_out n i h = rw (le-ltb i n h)
+
+pub one_told : (n i : ℕ) → option_of (λ (j : ℕ). j) (then_some (ltb i n) i) ≡ one_of n i
+one_told n i = by_test (ltb i n) (λ q. rw q) (λ q. rw q)
 
 pub position_is : (v : ℕ) (xs : List ℕ) → option_of (λ (i : ℕ). i) (result_err (searched none_yet xs (some v))) ≡ one_of (length xs) (index_of v xs)
 position_is v xs =

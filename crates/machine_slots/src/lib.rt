@@ -49,7 +49,7 @@ impl Tally {
     }
 }
 
-// All ids of a function, or the position of v if it is one of them.
+// All ids of a function, or the position of v if it is one of them. One walk counts and seeks: an Err ends it early, as in `try_fold`.
 fn search(f: Function, v: Option<ValueId>) -> Result<Tally, usize>
     ensures { result ≡ searched none_yet (value_ids (ir_of f.entry)) (id_of v) }
 {
@@ -103,6 +103,6 @@ impl<'a> Ids<'a> {
             return search(self.function, Some(v)).err();
         }
         let slot = v.0 as usize;
-        if slot < self.count { Some(slot) } else { None }
+        (slot < self.count).then_some(slot)
     }
 }

@@ -4,13 +4,13 @@ use mathlib.Core.List.{List}
 use mathlib.Core.Option as maths
 use Prim.Native.Nat.{ℕ, ◌^◌, ◌<◌}
 use native.Mathlib.Omega.{arith}
-use Rattle.std.specs.Prelude.{Option, None, Some, Result, Ok, Err, IsErr, IsErrAnd}
+use Rattle.std.specs.Prelude.{Option, None, Some, Result, Ok, Err, IsErrAnd}
 use Rattle.std.specs.Option.{ok_or}
 use Rattle.std.specs.Result.{result_ok}
 use Rattle.definitions.specs.Result as defs
 use Rattle.definitions.specs.Result.{◌>>=◌, ◌>>◌, ok_or_else}
 use Rattle.definitions.specs.Bench.{Stop, outcome, unset, Machine, give_result}
-use Rattle.machine_slots.proofs.Searching.{handed_back}
+use Rattle.ir.proofs.Exits.{exit}
 use Rattle.machine_state.specs.Frames.{Given, given}
 use Rattle.machine_state.specs.Running.{Running}
 use Rattle.machine_state.specs.declared.under_way.UnderWay.{UnderWay}
@@ -25,8 +25,8 @@ module _ {A : Type 0} {o : Option A} {r : Result A Halt} where
   pub asked_none : {e : Halt} → o ≡ result_ok r → r ≡ Err e → o ≡ None
   asked_none p w = p ∙ ap result_ok w
 
-pub halts_by : {A B : Type 0} (o : Option A) (h e : Halt) (r : Result A Halt) (x : Result B Halt) → r ≡ ok_or o h → o ≡ result_ok r → r ≡ Err e → IsErr x × IsErrAnd x (λ (y : Halt). y ≡ e) → x ≡ Err h
-halts_by o h e r x v p w f = handed_back e x f ∙ (let z : Err e ≡ Err h = sym w ∙ (v ∙ ap (λ (y : Option _). ok_or y h) (p ∙ ap result_ok w)) in same_halt e h z)
+pub halts_by : {A B : Type 0} {o : Option A} {h e : Halt} {r : Result A Halt} {x : Result B Halt} → r ≡ ok_or o h → o ≡ result_ok r → r ≡ Err e → IsErrAnd x (λ (y : Halt). y ≡ e) → x ≡ Err h
+halts_by {h = h} {e = e} v p w f = exit f ∙ (let z : Err e ≡ Err h = sym w ∙ (v ∙ ap (λ (y : Option _). ok_or y h) (p ∙ ap result_ok w)) in same_halt e h z)
   where
     same_halt : {A B : Type 0} (e h : Halt) → ◌≡◌ {A = Result A Halt} (Err e) (Err h) → ◌≡◌ {A = Result B Halt} (Err e) (Err h)
     same_halt e h z = ap (λ (y : Result _ Halt). elim y [ Ok a ↦ Err e | Err x ↦ Err x ]) z

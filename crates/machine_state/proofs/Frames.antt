@@ -1,6 +1,6 @@
 -- What a store changes of what a frame's cells hold. Assumes nothing.
 use mathlib.Core.Path.{◌≡◌, ap, sym, ◌∙◌}
-use mathlib.Core.List.{List, [], ◌∷◌}
+use mathlib.Core.List.{List, ◌∷◌}
 use mathlib.Core.Logic.{◌⊎◌, inl, inr}
 use mathlib.Core.Option.{Option, none, some}
 use Prim.Native.Nat.{ℕ, ◌+◌, ◌*◌, ◌^◌, ◌≤◌, ◌<◌}
@@ -10,8 +10,8 @@ use lib.Dec.{eqb, ltb}
 use lib.ListN.{length}
 use Rattle.definitions.specs.Bench.{Notes, word_at, bytes_for}
 use Rattle.definitions.proofs.Results.{by_test}
-use Rattle.machine_memory.specs.Cells.{cell_width, cell, stored, emptied, cleared}
-use Rattle.machine_memory.proofs.Cells.{stored_same, stored_apart, emptied_same, emptied_apart, cleared_within, length_stored, length_emptied}
+use Rattle.machine_memory.specs.Cells.{cell_width, cell, stored, emptied}
+use Rattle.machine_memory.proofs.Cells.{stored_same, stored_apart, emptied_same, emptied_apart, length_stored, length_emptied}
 use Rattle.machine_slots.specs.Slots.{Among, slot_for}
 use Rattle.machine_slots.proofs.Indices.{slot_low, slot_one, frame_bytes}
 use Rattle.machine_state.specs.Frames.{function_in, ids_in, value_cell, locals_base, local_cell, slot_word, InCells}
@@ -100,20 +100,4 @@ not_touched {m} {after} {t} H h =
       value = λ v. H.value v ∙ sym (same_word after m t.base n (slot_for (ids_in t) v) (λ i k. h (t.base + cell_width * i) (omega arith) (omega arith)));
       local = λ l.
           H.local l ∙ sym (same_word after m (locals_base t) (length (function_in t).locals) l (λ i k. h (locals_base t + cell_width * i) (omega arith) (omega arith)));
-    }
-
--- A FRAME that was cleared holds nothing
-pub nothing_held : (m : List ℕ) (t : Frame) → t.base + bytes_for (function_in t) ≤ length m → InCells (cleared m t.base (bytes_for (function_in t))) t [] []
-nothing_held m t h =
-    let n : ℕ = length (ids_in t) in
-    let e : bytes_for (function_in t) ≡ 9 * (n + length (function_in t).locals) = frame_bytes (function_in t) in
-    let none-at : (p k i : ℕ) → t.base ≤ p → p + cell_width * k ≤ t.base + bytes_for (function_in t) → none ≡ slot_word (cleared m t.base (bytes_for (function_in t))) p k i = (λ p k i x y.
-    by_test (ltb i k)
-    (λ q.
-    let z : i < k = ltb-true i k q in
-    sym (within (cleared m t.base (bytes_for (function_in t))) p k i z ∙ cleared_within m t.base (bytes_for (function_in t)) (p + cell_width * i) h (omega arith) (omega arith)))
-    (λ q. sym (beyond (cleared m t.base (bytes_for (function_in t))) p k i (ltb-false i k q)))) in
-    record {
-      value = λ v. none-at t.base n (slot_for (ids_in t) v) (omega arith) (omega arith);
-      local = λ l. none-at (locals_base t) (length (function_in t).locals) l (omega arith) (omega arith);
     }

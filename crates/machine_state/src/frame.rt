@@ -9,7 +9,7 @@ use machine_memory::CELL;
 use machine_slots::Ids;
 
 // A function's ids, where its cells start, and how many locals it has. The memory stays an argument of its own: in here it would be a `&mut`, of which
-// each contract had to say that it is still the same one.
+// each contract had to say that it is still the same one. So `Fits` and `Given` relate a memory and a frame.
 #[derive(Clone, Copy, Debug)]
 pub struct Frame<'a> {
     pub ids: Ids<'a>,
@@ -38,14 +38,11 @@ impl Frame<'_> {
         ensures { word_of result ≡ local_place self.now l.0 }
     {
         let slot = l.0 as usize;
-        if slot < self.locals {
-            Some(self.base + CELL * (self.ids.count + slot))
-        } else {
-            None
-        }
+        let slot = (slot < self.locals).then_some(slot)?;
+        Some(self.base + CELL * (self.ids.count + slot))
     }
 
-    // The word of the value v.
+    // The word of the value v. Of a value and of a local, and to give and to unset, are two functions each: they differ in one call of two.
     pub fn value(&self, memory: &[u8], v: ValueId) -> Option<u64>
         requires { Fits (length memory.now) self.now }
         ensures { word_of result ≡ value_word memory.now self.now v.0 }

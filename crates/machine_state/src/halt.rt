@@ -3,44 +3,42 @@ ghost use Rattle.std.specs.Prelude.{◌≡◌};
 ghost use Rattle.machine_state.specs.declared.halt.Halt.TheVariants as halts;
 
 use machine_arithmetic::ZeroDivisor;
-use std::error::Error;
 use std::fmt;
+use thiserror::Error;
 
 // An outcome's cause, or too little memory.
-#[derive(Clone, Copy, Debug, PartialEq, Eq)]
+#[derive(Clone, Copy, Debug, PartialEq, Eq, Error)]
 pub enum Halt {
+    #[error(fmt = returned)]
     Returned(Option<u64>),
+    #[error("zero divisor")]
     ZeroDivisor,
+    #[error("list used up")]
     ListUsedUp,
+    #[error("slot absent")]
     SlotAbsent,
+    #[error("a seventeenth open function")]
     Seventeenth,
+    #[error("a Store")]
     Store,
+    #[error("an Unreachable")]
     Unreachable,
+    #[error("no block to start in")]
     NoStartBlock,
+    #[error("something unset")]
     Unset,
+    #[error("too little memory")]
     TooLittleMemory,
 }
 
-impl fmt::Display for Halt {
-    fn fmt<W: fmt::Write>(&self, f: &mut fmt::Formatter<W>) -> fmt::Result {
-        match self {
-            Halt::Returned(Some(word)) => write!(f, "returned {word}"),
-            Halt::Returned(None) => write!(f, "returned"),
-            Halt::ZeroDivisor => write!(f, "zero divisor"),
-            Halt::ListUsedUp => write!(f, "list used up"),
-            Halt::SlotAbsent => write!(f, "slot absent"),
-            Halt::Seventeenth => write!(f, "a seventeenth open function"),
-            Halt::Store => write!(f, "a Store"),
-            Halt::Unreachable => write!(f, "an Unreachable"),
-            Halt::NoStartBlock => write!(f, "no block to start in"),
-            Halt::Unset => write!(f, "something unset"),
-            Halt::TooLittleMemory => write!(f, "too little memory"),
-        }
+fn returned<W: fmt::Write>(word: &Option<u64>, f: &mut fmt::Formatter<W>) -> fmt::Result {
+    match word {
+        Some(word) => write!(f, "returned {word}"),
+        None => write!(f, "returned"),
     }
 }
 
-impl Error for Halt {}
-
+// `From` by hand: the derive's has no `from_gives`, so that nothing were known of what `?` passes on.
 impl From<ZeroDivisor> for Halt {
     ghost from_gives = { λ _ halt. halt ≡ halts.ZeroDivisor };
 

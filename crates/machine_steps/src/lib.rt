@@ -4,15 +4,15 @@
 ghost use Rattle.std.specs.Prelude.{ℕ, List, ◌<◌, length};
 ghost use Rattle.std.proofs.Math.Option as maths;
 ghost use Rattle.definitions.specs.Ir.{IrType, Instruction, Terminator};
-ghost use Rattle.definitions.specs.ProgramSheet.{binary_of};
-ghost use Rattle.format.specs.Kinds.{instr_number};
+ghost use Rattle.definitions.specs.ContractSheet.{op_of};
+ghost use Rattle.format.specs.Operators.{op_number};
 ghost use Rattle.program_nodes.specs.Nodes.{ids_in};
 ghost use Rattle.machine_state.specs.declared.under_way.UnderWay.{UnderWay};
 ghost use Rattle.machine_state.specs.Frames.{function_in, id_of, Fits, Given};
 ghost use Rattle.machine_state.specs.Running.{Does, Ends};
 ghost use Rattle.machine_steps.specs.Steps.{went, halted, AllAsked};
 
-use format::kinds;
+use format::operators::BinOp;
 use ir::{BlockId, LocalId, ValueId};
 use machine_state::{Frame, Halt, UnderWay};
 use program_nodes::Ids;
@@ -25,21 +25,21 @@ pub fn step_const(frame: &Frame, memory: &mut [u8], to: Option<ValueId>, word: u
     frame.give(memory, to, word);
 }
 
-// The binary instruction of a kind, Add to Ge: the left operand, the right one, then the number.
+// The binary instruction of an operator: the left operand, the right one, then the number.
 pub fn step_binary(
     frame: &Frame,
     memory: &mut [u8],
     to: Option<ValueId>,
-    kind: kinds::Instruction,
+    op: BinOp,
     left: ValueId,
     right: ValueId,
 ) -> Result<(), Halt>
     requires { Given (length memory.old) frame.now (id_of to) }
-    ensures { (t : IrType) → Does frame.now memory.old memory.new (id_of to) (Instruction.Binary (binary_of (instr_number kind)) t left.0 right.0) result }
+    ensures { (t : IrType) → Does frame.now memory.old memory.new (id_of to) (Instruction.Binary (op_of (op_number op)) t left.0 right.0) result }
 {
     let a = frame.value(memory, left).ok_or(Halt::Unset)?;
     let b = frame.value(memory, right).ok_or(Halt::Unset)?;
-    let word = machine_arithmetic::compute(kind, a, b)?;
+    let word = machine_arithmetic::compute(op, a, b)?;
     frame.give(memory, to, word);
     Ok(())
 }

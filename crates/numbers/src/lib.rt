@@ -6,13 +6,14 @@ ghost use Rattle.definitions.specs.Answers.{numbers_of, padded};
 ghost use Rattle.definitions.specs.Result.{err, Done};
 ghost use Rattle.sheet.specs.Forms.{refusal_of};
 
-use sheet::ContractError;
+use sheet::{ContractError, Malformed, OverLimit};
 use std::marker::Model;
 
 // The most numbers that an answer has: a refusal's own, and five details.
 pub const MOST: usize = 6;
 
-// An answer's numbers: a refusal's own and its details, in order. Acceptance has none, or 0 and a length.
+// An answer's numbers: a refusal's own and its details, in order. Acceptance has none, or 0 and a length. A count and an array, and no `ArrayVec`:
+// C reads the zeros behind the numbers too, and behind an `ArrayVec` nothing is known to stand.
 #[derive(Clone, Copy, Debug, PartialEq, Eq)]
 pub struct Numbers {
     count: usize,
@@ -75,8 +76,8 @@ impl From<ContractError> for Numbers {
     fn from(e: ContractError) -> Numbers {
         match e {
             ContractError::TooLong => Numbers::new([1]),
-            ContractError::Malformed(place) => Numbers::new([3, place]),
-            ContractError::OverLimit(place) => Numbers::new([4, place]),
+            ContractError::Malformed(Malformed(place)) => Numbers::new([3, place]),
+            ContractError::OverLimit(OverLimit(place)) => Numbers::new([4, place]),
         }
     }
 }

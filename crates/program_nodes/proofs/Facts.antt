@@ -16,7 +16,7 @@ use Rattle.format.specs.Kinds.{instr_number, term_number}
 use Rattle.format.specs.declared.kinds.Instruction.{Instruction as InstrKind}
 use Rattle.format.specs.declared.kinds.Instruction.TheVariants as instr
 use Rattle.format.specs.declared.kinds.Terminator.{Terminator as TermKind}
-use Rattle.program_nodes.specs.Offsets.{own_at, right_at}
+use Rattle.program_nodes.specs.Offsets.{own_at}
 use Rattle.definitions.specs.Ir.{IrType, result_type, unless_void}
 use Rattle.definitions.specs.InstrTable.{ResultRule, kind_row}
 use Rattle.ir.specs.Kinds.{rule_in}
@@ -31,7 +31,6 @@ use Rattle.program_nodes.specs.declared.program.Function.{Function}
 use Rattle.program_nodes.specs.declared.instr.Instr.{Instr}
 use Rattle.program_nodes.specs.declared.term.Term.{Term}
 use Rattle.program_nodes.proofs.Stand.{kept}
-use Rattle.program_nodes.proofs.KindNumbers.{IsBinary, binary_size}
 use Rattle.program_nodes.proofs.Walk.{instr_alone, term_alone}
 use Rattle.program_nodes.proofs.FunctionSteps.{ProgramAt, program_at, function_here_is}
 
@@ -56,9 +55,6 @@ term_fits t h e = rw (← e, h) (term_place t).fits
 
 pub instr_result_fits : (i : Instr) → i.at + own_at ≤ i.stop
 instr_result_fits i = omega (arith, (instr_to i).room)
-
-pub binary_fits : (i : Instr) (r : InstrKind) → instr_number r ≡ kind_here i.sheet.now i.at → IsBinary r → i.at + (right_at + 2) ≤ i.stop
-binary_fits i r h b = let I = instr_to i in let e = rw h at (binary_size r b) in omega (arith, I.room, e)
 
 pub context_low : (i : Instr) {r : InstrKind} → instr_number r ≡ kind_here i.sheet.now i.at → r ≡ instr.ContextRead → le 2 i.sheet.now (i.at + own_at) ≤ 2
 context_low i h e = let C = (instr_to i).place.context in leb-true _ _ (C (rw (← h, e) refl))

@@ -12,9 +12,7 @@ use Rattle.definitions.specs.Ir.{Instruction}
 use Rattle.definitions.specs.Grammar.{Class, Entry, up_to, optional, Field, single, Pattern, done, one, perhaps, many, origin, rows}
 use Rattle.definitions.specs.Records.{FieldValue, opt_from, may_end, read_item, size_of, fields_end, read_values, node, Trees, tnil, tcons, read_records, gather}
 use Rattle.definitions.specs.ProgramSheet.{own_of, terminator_of, instr_node_of, term_of, first_of, block_of}
-use Rattle.format.specs.Kinds.{instr_number, term_number, in_block_number}
-use Rattle.format.specs.declared.kinds.InBlock.{InBlock}
-use Rattle.format.specs.declared.kinds.InBlock.TheVariants as in_block
+use Rattle.format.specs.Kinds.{instr_number, term_number}
 use Rattle.format.specs.declared.kinds.Instruction.{Instruction as InstrKind}
 use Rattle.format.specs.declared.kinds.Terminator.{Terminator as TermKind}
 use Rattle.format.specs.declared.kinds.Terminator.TheVariants as term
@@ -24,7 +22,7 @@ use Rattle.definitions.proofs.Sheets.Lines.{OfRows, Given, by_lines}
 use Rattle.definitions.proofs.Sheets.Singles.{items_from, after as afterAll, Starts, starts, Own, own}
 use Rattle.definitions.proofs.Sheets.Steps.{Step, here, past, One, this, many_step, perhaps_step, one_step, done_ends, low}
 use Rattle.program_nodes.specs.Offsets.{head_width, block_id_at, records_at, fields_at, own_at}
-use Rattle.program_nodes.specs.Positions.{kind_here, stop_here, instr_here, size_here, term_here, term_size, instrs_here, terminator_here, block_here, blocks_here, BlockFrom, BlocksFrom, InstrPlace, InstrTo, TermPlace}
+use Rattle.program_nodes.specs.Positions.{kind_here, stop_here, instr_here, size_here, term_here, term_size, instrs_here, terminator_here, block_here, blocks_here, BlockFrom, BlocksFrom, InstrTo, TermPlace}
 use Rattle.program_nodes.proofs.Stand.{alone, instr_after, term_after}
 use Rattle.program_nodes.proofs.InstrRows.{InstrAt, instr_at, instr_kind, placed}
 
@@ -67,7 +65,6 @@ term_kind = by_lines K Class.terminator rows (term.Jump, refl) (term.Branch, ref
 -- A BLOCK'S RECORDS: what stands at q
 pub record InstrStep (s : List ℕ) (q end stop : ℕ) : Type 0 where
   pub alone : Fine s q stop (one Class.instruction done)
-  pub kind : (k : InstrKind) × (instr_number k ≡ kind_here s q)
   pub vs : List FieldValue
   pub at : InstrAt s q stop (kind_here s q) (own_of vs)
   pub high : stop ≤ end
@@ -79,7 +76,6 @@ pub record InstrStep (s : List ℕ) (q end stop : ℕ) : Type 0 where
 pub record TermStep (s : List ℕ) (q end : ℕ) : Type 0 where
   pub alone : Fine s q end (one Class.terminator done)
   pub stop_is : end ≡ stop_here s q
-  pub kind : (k : TermKind) × (term_number k ≡ kind_here s q)
   pub vs : List FieldValue
   pub at : TermAt s q end (kind_here s q) (own_of vs)
   pub low : q + head_width ≤ end
@@ -94,9 +90,6 @@ pub data AtRecord (s : List ℕ) (q end : ℕ) : Type 0 where
 size_big : (k : ℕ) → own_at ≤ size_here k
 size_big k = omega arith
 
-pub head_fits : {s : List ℕ} {q k : ℕ} → InstrPlace s q k → q + own_at ≤ length s
-head_fits {s} {q} {k} I = omega (arith, I.fits, size_big k)
-
 at_terminator : {s : List ℕ} {q end : ℕ} → Step s q end Class.terminator done done → AtRecord s q end
 at_terminator (past f) = at_end (done_ends f)
 at_terminator {s} {q} {end} (here {fs = fs} {b = b} {stop = stop} hd kids more) =
@@ -105,7 +98,6 @@ at_terminator {s} {q} {end} (here {fs = fs} {b = b} {stop = stop} hd kids more) 
     at_term (record {
       alone = subst (λ (x : ℕ). Fine s q x (one Class.terminator done)) e (alone Class.terminator term_after hd kids);
       stop_is = sym e ∙ hd.stop_is;
-      kind = term_kind (kind_here s q) _ _ hd.is;
       vs = read_values fs s stop (q + head_width);
       at = subst (λ (x : ℕ). TermAt s q x (kind_here s q) (own_of (read_values fs s stop (q + head_width)))) e t.1;
       low = omega (arith, hd.low, hd.mid);
@@ -119,7 +111,6 @@ at_instruction {s} {q} {end} (here {fs = fs} {b = b} {stop = stop} hd kids more)
     let t = instr_at s q end b stop (kind_here s q) _ _ hd.is hd in
     at_instr (subst (InstrStep s q end) hd.stop_is (record {
       alone = alone Class.instruction instr_after hd kids;
-      kind = instr_kind (kind_here s q) _ _ hd.is;
       vs = read_values fs s stop (q + head_width);
       at = t.1;
       high = hd.high;
@@ -139,19 +130,16 @@ record_fits f l = elim (at_record f) [ at_end e ↦ absurd (omega arith) | at_in
 pub record_long : {s : List ℕ} {q end : ℕ} → BlockFrom s q end → q < end → q < stop_here s q
 record_long f l = elim (at_record f) [ at_end e ↦ absurd (omega arith) | at_instr I ↦ omega (arith, I.low) | at_term T ↦ omega (arith, T.stop_is) ]
 
-pub instr_here_lem : {s : List ℕ} {q end : ℕ} → BlockFrom s q end → q < end → kind_here s q ≤ 81 → InstrStep s q end (stop_here s q)
+pub instr_here_lem : {s : List ℕ} {q end : ℕ} → BlockFrom s q end → q < end → kind_here s q < 90 → InstrStep s q end (stop_here s q)
 instr_here_lem f l k = elim (at_record f) [ at_end e ↦ absurd (omega arith) | at_instr I ↦ I | at_term T ↦ absurd (omega (arith, T.at.low)) ]
 
-pub term_here_lem : {s : List ℕ} {q end : ℕ} → BlockFrom s q end → q < end → 81 < kind_here s q → TermStep s q end
+pub term_here_lem : {s : List ℕ} {q end : ℕ} → BlockFrom s q end → q < end → 90 ≤ kind_here s q → TermStep s q end
 term_here_lem f l k = elim (at_record f) [ at_end e ↦ absurd (omega arith) | at_instr I ↦ absurd (omega (arith, I.at.high)) | at_term T ↦ T ]
 
--- what is left after it; its kind
+-- what is left after it
 pub rest_here : {s : List ℕ} {q end : ℕ} → BlockFrom s q end → q < end → BlockFrom s (stop_here s q) end
 unfolding may_end
 rest_here f l = elim (at_record f) [ at_end e ↦ absurd (omega arith) | at_instr I ↦ I.next | at_term T ↦ rw (← T.stop_is) (ends refl refl) ]
-
-pub kind_there : {s : List ℕ} {q end : ℕ} → BlockFrom s q end → q < end → (k : InBlock) × (in_block_number k ≡ kind_here s q)
-kind_there f l = elim (at_record f) [ at_end e ↦ absurd (omega arith) | at_instr I ↦ (in_block.Instruction I.kind.0, I.kind.1) | at_term T ↦ (in_block.Terminator T.kind.0, T.kind.1) ]
 
 -- A RECORD BY ITSELF
 pub instr_alone : {s : List ℕ} {q stop k : ℕ} → Fine s q stop (one Class.instruction done) → stop ≤ length s → k ≡ kind_here s q → InstrTo s q stop k

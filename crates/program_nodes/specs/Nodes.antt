@@ -1,15 +1,15 @@
 -- What the nodes stand for: the program of the definitions. Assumes nothing: these are definitions.
 use Rattle.std.specs.Prelude.{ℕ, suc, ◌+◌, ◌≤◌, ◌<◌, ◌≡◌, Bool, true, false, List, [], ◌∷◌, ◌++◌, map, eqb, length, Option, None, Some, Result, Ok, Err}
 use Rattle.std.proofs.Math.Option as maths
+use Rattle.definitions.specs.ContractSheet.{op_of}
 use Rattle.definitions.specs.Fields.{le}
 use Rattle.definitions.specs.Ir as ir
 use Rattle.definitions.specs.Grammar.{value_and_type}
 use Rattle.definitions.specs.Records.{Item, Form, Good, Bad, opt_from, number_of, type_of, read_items, read_records}
-use Rattle.definitions.specs.ProgramSheet.{binary_of}
-use Rattle.format.specs.Kinds.{instr_number}
 use Rattle.format.specs.declared.kinds.Instruction as kinds
 use Rattle.format.specs.declared.kinds.Instruction.TheVariants as kind
 use Rattle.format.specs.Contexts.{context_number}
+use Rattle.format.specs.Operators.{op_number}
 use Rattle.ir.specs.Types.{as_type}
 use Rattle.ir.specs.Answers.{option_of}
 use Rattle.ir.specs.declared.ValueId.{ValueId}
@@ -126,7 +126,7 @@ is_access kind.Emit = false
 -- WHAT THEY ARE
 abbrev pub instr_is : Instruction → ir.Instruction
 instr_is (instr.Const t n) = ir.Instruction.Const (as_type t) n
-instr_is (instr.Binary k t l r) = ir.Instruction.Binary (binary_of (instr_number k)) (as_type t) l.0 r.0
+instr_is (instr.Binary op t l r) = ir.Instruction.Binary (op_of (op_number op)) (as_type t) l.0 r.0
 instr_is (instr.Load t b o) = ir.Instruction.Load (as_type t) b.0 o
 instr_is (instr.Store b o v) = ir.Instruction.Store b.0 o v.0
 instr_is (instr.StateRead t n) = ir.Instruction.StateRead (as_type t) n

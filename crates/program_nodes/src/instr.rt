@@ -4,10 +4,12 @@ ghost use Rattle.ir.specs.Types.{as_type};
 ghost use Rattle.program_nodes.specs.Standing.{InstrStands};
 ghost use Rattle.program_nodes.specs.Positions.{type_here};
 
+use format::operators::BinOp;
 use format::program::ContextKind;
 use format::{ABSENT, ID, KIND, kinds, program};
 use ir::{FunctionId, IrType, LocalId, Name, ResultRule, ValueId};
 use reader::{read, read_u16};
+use sheet::places;
 
 // The right operand of a Poseidon.
 const POSEIDON_RIGHT: usize = program::POSEIDON_LEFT + ID;
@@ -30,12 +32,12 @@ pub struct Ids<'a> {
     pub ghost inside: { at + 2 * left ≤ length sheet.now },
 }
 
-// What an instruction is (`Instruction` of `ir/mod.rs`). `Binary` stands for ten of the Rust's variants, Add to Ge, and has its kind.
+// What an instruction is (`Instruction` of `ir/mod.rs`). `Binary` stands for ten of the Rust's variants, Add to Ge, and has its operator.
 // An offset (i64) and a slot (i32) are the numbers of their 8 and 4 bytes.
 #[derive(Clone, Copy, Debug)]
 pub enum Instruction<'a> {
     Const(IrType, usize),
-    Binary(kinds::Instruction, IrType, ValueId, ValueId),
+    Binary(BinOp, IrType, ValueId, ValueId),
     Load(IrType, ValueId, usize),
     Store(ValueId, usize, ValueId),
     StateRead(IrType, usize),
@@ -50,6 +52,7 @@ pub enum Instruction<'a> {
 }
 
 // The type at a place.
+#[tactic(auto, unfolding(crate::specs::Positions::type_here))]
 pub fn type_at(s: &[u8], at: usize) -> IrType
     requires { at + 4 ≤ length s.now }
     ensures { as_type result ≡ type_here s.now at }
@@ -59,11 +62,15 @@ pub fn type_at(s: &[u8], at: usize) -> IrType
 
 impl<'a> Instr<'a> {
     ghost use Rattle.std.specs.Prelude.{true, ◌-◌, ◌/◌};
+    ghost use Rattle.definitions.specs.ContractSheet.{op_of};
     ghost use Rattle.definitions.specs.Fields.{le};
+    ghost use Rattle.definitions.specs.InstrTable.{binary_kind};
     ghost use Rattle.definitions.specs.Ir.{result_type};
     ghost use Rattle.format.specs.Kinds.{instr_number};
+    ghost use Rattle.format.specs.Operators.{op_number};
     ghost use Rattle.ir.specs.Answers.{option_of};
-    ghost use Rattle.program_nodes.specs.Positions.{ids_here, kind_here, has_type, type_offset};
+    ghost use Rattle.program_nodes.specs.Offsets.{right_at};
+    ghost use Rattle.program_nodes.specs.Positions.{ids_here, kind_here, size_here, has_type, type_offset};
     ghost use Rattle.program_nodes.specs.Nodes.{instr_in, instr_is, is_access, result_is, result_in, value_of, ids_in};
 
     // The id that stands at an offset, the type, and the number of so many bytes.
@@ -90,12 +97,14 @@ impl<'a> Instr<'a> {
 
     // Its kind.
     pub fn kind(self) -> kinds::Instruction
-        ensures { instr_number result ≡ kind_here self.entry.sheet.now self.entry.at }
+        ensures is { instr_number result ≡ kind_here self.entry.sheet.now self.entry.at }
+        ensures room { self.entry.at + size_here (instr_number result) ≤ self.entry.stop }
     {
         kinds::Instruction::try_from(self.id(KIND)).unwrap()
     }
 
-    // Whether it defines the value: compared as numbers, since the search for a definition asks it of each record.
+    // Whether it defines the value: compared as numbers, since the search for a definition asks it of each record, and an Option takes it four
+    // instructions in place of one.
     pub fn gives(self, v: ValueId) -> bool
         ensures { result ≡ result_is v.0 (result_in self.entry) }
     {
@@ -107,12 +116,7 @@ impl<'a> Instr<'a> {
     pub fn result(self) -> Option<ValueId>
         ensures { option_of value_of result ≡ result_in self.entry }
     {
-        let value = self.id(program::RESULT);
-        if value == ABSENT {
-            None
-        } else {
-            Some(ValueId(value))
-        }
+        places::opt_id(self.sheet, self.at + program::RESULT).map(ValueId)
     }
 
     // The type among its own fields.
@@ -158,6 +162,7 @@ impl<'a> Instr<'a> {
     }
 
     // What it is.
+    #[tactic(auto, unfolding(crate::specs::Positions::instr_here))]
     pub fn node(self) -> Instruction<'a>
         ensures { instr_is result ≡ instr_in self.entry }
     {
@@ -167,21 +172,16 @@ impl<'a> Instr<'a> {
                 self.ty(program::CONST_TYPE),
                 self.number(program::CONST_VALUE, 8),
             ),
-            kinds::Instruction::Add
-            | kinds::Instruction::Sub
-            | kinds::Instruction::Mul
-            | kinds::Instruction::Div
-            | kinds::Instruction::Eq
-            | kinds::Instruction::Ne
-            | kinds::Instruction::Lt
-            | kinds::Instruction::Le
-            | kinds::Instruction::Gt
-            | kinds::Instruction::Ge => Instruction::Binary(
-                kind,
-                self.ty(program::BINARY_TYPE),
-                ValueId(self.id(program::LEFT)),
-                ValueId(self.id(program::RIGHT)),
-            ),
+            kinds::Instruction::Add => self.binary(BinOp::Add),
+            kinds::Instruction::Sub => self.binary(BinOp::Sub),
+            kinds::Instruction::Mul => self.binary(BinOp::Mul),
+            kinds::Instruction::Div => self.binary(BinOp::Div),
+            kinds::Instruction::Eq => self.binary(BinOp::Eq),
+            kinds::Instruction::Ne => self.binary(BinOp::Neq),
+            kinds::Instruction::Lt => self.binary(BinOp::Lt),
+            kinds::Instruction::Le => self.binary(BinOp::Lte),
+            kinds::Instruction::Gt => self.binary(BinOp::Gt),
+            kinds::Instruction::Ge => self.binary(BinOp::Gte),
             kinds::Instruction::Assert => Instruction::Assert(ValueId(self.id(program::ASSERTED))),
             kinds::Instruction::Poseidon => Instruction::Poseidon(
                 ValueId(self.id(program::POSEIDON_LEFT)),
@@ -202,9 +202,25 @@ impl<'a> Instr<'a> {
         }
     }
 
-    // What it is, if it reaches beyond values: for memory, a state word, a local, a function or the context.
+    // The binary instruction of an operator.
+    fn binary(self, op: BinOp) -> Instruction<'a>
+        requires { (binary_kind (op_of (op_number op)) ≡ kind_here self.sheet.now self.at) × (self.at + right_at + 2 ≤ self.stop) }
+        ensures { instr_is result ≡ instr_in self.entry }
+    {
+        Instruction::Binary(
+            op,
+            self.ty(program::BINARY_TYPE),
+            ValueId(self.id(program::LEFT)),
+            ValueId(self.id(program::RIGHT)),
+        )
+    }
+
+    // What it is, if it reaches beyond values: for memory, a state word, a local, a function or the context. Apart from `node`, since a function has
+    // at most 40 lines.
+    #[tactic(auto, unfolding(crate::specs::Positions::instr_here))]
     fn access_node(self, kind: kinds::Instruction) -> Instruction<'a>
-        requires { (instr_number kind ≡ kind_here self.sheet.now self.at) × (is_access kind ≡ true) }
+        requires is { (instr_number kind ≡ kind_here self.sheet.now self.at) × (is_access kind ≡ true) }
+        requires room { self.at + size_here (instr_number kind) ≤ self.stop }
         ensures { instr_is result ≡ instr_in self.entry }
     {
         match kind {

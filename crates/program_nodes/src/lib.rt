@@ -1,4 +1,6 @@
 // A program sheet that passed 40, as the program that the Rust has (`ir/mod.rs`): nodes that know where they stand, and what each of them is.
+// A list of nodes is a place and an end (or a count), and no slice: the definitions read a sheet at places, and a refusal names them. Five iterators
+// by hand, and no plainer: a trait of what they give would need a width or a length, a reading and its law, for bodies of six lines.
 #![tactic(auto)]
 
 pub mod block; // blocks and their records

@@ -1,9 +1,10 @@
 // Terminators and what they are.
 ghost use Rattle.program_nodes.specs.Standing.{TermStands};
 
-use format::{ABSENT, KIND, kinds, program};
+use format::{KIND, kinds, program};
 use ir::{BlockId, ValueId};
 use reader::read_u16;
+use sheet::places;
 
 // A terminator by its place, and where its record stops.
 #[derive(Clone, Copy, Debug)]
@@ -24,37 +25,42 @@ pub enum Terminator {
 }
 
 impl Term<'_> {
-    ghost use Rattle.std.specs.Prelude.{◌≡◌};
+    ghost use Rattle.std.specs.Prelude.{◌≡◌, ◌+◌, ◌≤◌, length};
+    ghost use Rattle.definitions.specs.Fields.{le};
     ghost use Rattle.format.specs.Kinds.{term_number};
-    ghost use Rattle.program_nodes.specs.Positions.{kind_here};
+    ghost use Rattle.program_nodes.specs.Positions.{kind_here, term_size};
     ghost use Rattle.program_nodes.specs.Nodes.{term_in, term_is};
 
     fn kind(self) -> kinds::Terminator
-        ensures { term_number result ≡ kind_here self.entry.sheet.now self.entry.at }
+        ensures is { term_number result ≡ kind_here self.entry.sheet.now self.entry.at }
+        ensures fits { self.entry.at + term_size (term_number result) ≤ length self.entry.sheet.now }
     {
         kinds::Terminator::try_from(read_u16(self.sheet, self.at + KIND)).unwrap()
     }
 
+    // The id that stands at an offset.
+    fn id(self, offset: usize) -> u16
+        requires { self.at + offset + 2 ≤ length self.sheet.now }
+        ensures { result ≡ le 2 self.entry.sheet.now (self.entry.at + offset) }
+    {
+        read_u16(self.sheet, self.at + offset)
+    }
+
     // What it is.
+    #[tactic(auto, unfolding(crate::specs::Positions::term_here))]
     pub fn node(self) -> Terminator
         ensures { term_is result ≡ term_in self.entry }
     {
-        let s = self.sheet;
-        let q = self.at;
         match self.kind() {
-            kinds::Terminator::Jump => Terminator::Jump(BlockId(read_u16(s, q + program::TARGET))),
+            kinds::Terminator::Jump => Terminator::Jump(BlockId(self.id(program::TARGET))),
             kinds::Terminator::Branch => Terminator::Branch(
-                ValueId(read_u16(s, q + program::CONDITION)),
-                BlockId(read_u16(s, q + program::THEN)),
-                BlockId(read_u16(s, q + program::ELSE)),
+                ValueId(self.id(program::CONDITION)),
+                BlockId(self.id(program::THEN)),
+                BlockId(self.id(program::ELSE)),
             ),
             kinds::Terminator::Return => {
-                let value = read_u16(s, q + program::RETURNED);
-                Terminator::Return(if value == ABSENT {
-                    None
-                } else {
-                    Some(ValueId(value))
-                })
+                let value = places::opt_id(self.sheet, self.at + program::RETURNED);
+                Terminator::Return(value.map(ValueId))
             }
             kinds::Terminator::Unreachable => Terminator::Unreachable,
         }

@@ -4,14 +4,14 @@
 ghost use Rattle.std.specs.Prelude.{◌≡◌, ◌+◌, ◌^◌, ◌≤◌, ◌<◌, length};
 ghost use Rattle.definitions.specs.Fields.{le};
 
-// The number in the n bytes at a place.
+// The number in the n bytes at a place. No `from_le_bytes`: it takes an array of one size, and n is any here.
 fn number(s: &[u8], at: usize, n: usize) -> usize
     requires { (at + n ≤ length s.now) × (n ≤ 8) }
     ensures { (result ≡ le n s.now at) × (result < 256 ^ n) }
 {
     let mut sum: usize = 0;
-    for i in (0..n).rev() {
-        sum = sum * 256 + s[at + i] as usize;
+    for &byte in s[at..at + n].iter().rev() {
+        sum = sum * 256 + byte as usize;
     }
     sum
 }

@@ -10,8 +10,7 @@ ghost use Rattle.io.specs.Counts.{IsPrefixLen};
 
 use format::MOST;
 use lines::{LINE, LOWERED_LINE};
-use std::error::Error;
-use std::fmt;
+use thiserror::Error;
 
 // What is asked of a sheet.
 #[derive(Clone, Copy, Debug, PartialEq, Eq)]
@@ -22,16 +21,9 @@ enum Asked {
 }
 
 // A letter that asks nothing.
-#[derive(Clone, Copy, Debug, PartialEq, Eq)]
+#[derive(Clone, Copy, Debug, PartialEq, Eq, Error)]
+#[error("{0} asks nothing")]
 struct UnknownLetter(u8);
-
-impl fmt::Display for UnknownLetter {
-    fn fmt<W: fmt::Write>(&self, f: &mut fmt::Formatter<W>) -> fmt::Result {
-        write!(f, "{} asks nothing", self.0)
-    }
-}
-
-impl Error for UnknownLetter {}
 
 impl TryFrom<u8> for Asked {
     type Error = UnknownLetter;
@@ -79,7 +71,7 @@ fn read_sheet(rt: &HostRuntime, n: usize, sheet: &mut [u8]) -> Option<usize>
     console::read(rt, &mut sheet[..n])
 }
 
-// Prints the line of a contract sheet that is lowered. None of these answers where the line cannot be printed.
+// Prints the line of a contract sheet that is lowered. There is no answer where it cannot be printed.
 fn print_lowered(rt: &HostRuntime, sheet: &[u8]) -> Option<()> {
     let mut out = [0u8; MOST];
     let mut text = [0u8; LOWERED_LINE];
@@ -87,21 +79,8 @@ fn print_lowered(rt: &HostRuntime, sheet: &[u8]) -> Option<()> {
     rt.write_all(&text[..k]).ok()
 }
 
-// Prints the line of a program sheet that is verified.
-fn print_verified(rt: &HostRuntime, sheet: &[u8]) -> Option<()> {
-    let mut text = [0u8; LINE];
-    let k = lines::verify_line(sheet, &mut text);
-    rt.write_all(&text[..k]).ok()
-}
-
-// Prints the line of a contract sheet that is checked.
-fn print_checked(rt: &HostRuntime, sheet: &[u8]) -> Option<()> {
-    let mut text = [0u8; LINE];
-    let k = lines::contract_line(sheet, &mut text);
-    rt.write_all(&text[..k]).ok()
-}
-
-// Reads one sheet and prints its line, or nothing where the letter asks nothing. There is no answer where the list has ended.
+// Reads one sheet and prints its line, or nothing where the letter asks nothing. There is no answer where the list has ended or the line cannot
+// be printed.
 fn replay_one(rt: &HostRuntime) -> Option<()> {
     let head = read_head(rt)?;
     if LONGEST < head.length {
@@ -109,12 +88,15 @@ fn replay_one(rt: &HostRuntime) -> Option<()> {
     }
     let mut sheet = io::large_buffer();
     let n = read_sheet(rt, head.length, &mut sheet)?;
-    match Asked::try_from(head.letter) {
-        Ok(Asked::Lower) => print_lowered(rt, &sheet[..n]),
-        Ok(Asked::Verify) => print_verified(rt, &sheet[..n]),
-        Ok(Asked::Check) => print_checked(rt, &sheet[..n]),
-        Err(UnknownLetter(_)) => Some(()),
-    }
+    let sheet = &sheet[..n];
+    let mut text = [0u8; LINE];
+    let k = match Asked::try_from(head.letter) {
+        Ok(Asked::Lower) => return print_lowered(rt, sheet),
+        Ok(Asked::Verify) => lines::verify_line(sheet, &mut text),
+        Ok(Asked::Check) => lines::contract_line(sheet, &mut text),
+        Err(UnknownLetter(_)) => return Some(()),
+    };
+    rt.write_all(&text[..k]).ok()
 }
 
 // A proved loop has to end, so its turns are counted.

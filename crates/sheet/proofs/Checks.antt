@@ -1,21 +1,12 @@
 -- The check of records, one record at a time, and each way of the code through it. Assumes nothing.
-use Rattle.std.proofs.Common.{◌≡◌, ℕ, suc, ◌+◌, ◌-◌, ◌<◌, ◌≤◌, refl, ap, ap₂, ◌∙◌, Bool, List, arith}
+use Rattle.std.proofs.Common.{◌≡◌, ℕ, suc, ◌+◌, ◌-◌, ◌<◌, ◌≤◌, refl, ap₂, ◌∙◌, Bool, List, arith}
 use borrow.Author.Tests.{eq-eqb, ne_eqb}
 use Rattle.definitions.specs.Grammar.{Pattern}
 use Rattle.definitions.specs.Records.{pick, Good, Bad, and_then, may_end, nothing, starts, start_at, check_rest, records_from, check_records}
 use Rattle.definitions.proofs.Sheets.Passed.{bound_enough}
-use Rattle.std.specs.Prelude.{Result, Ok, Err, IsErr, IsErrAnd}
-use Rattle.sheet.specs.declared.errors.Malformed.{Malformed}
 use Rattle.sheet.specs.declared.tables.Child.{Child}
-use Rattle.sheet.specs.Forms.{form_of}
 use Rattle.sheet.specs.Tables.{pattern_of}
 use Rattle.sheet.proofs.Heads.{Within, within}
-
--- an error that `?` passed on
-pub passed_on : (r : Result (Unit {0}) Malformed) {e : Malformed} → IsErr r × IsErrAnd r (λ x. x ≡ e) → form_of r ≡ Bad e.0
-unfolding form_of
-passed_on (Err fault) h = ap (λ (x : Malformed). Bad x.0) h.1
-passed_on (Ok a) h = absurd cc
 
 module _ (s : List ℕ) (at end : ℕ) (q : Pattern) where
   step : at < end → check_records s at end q ≡ check_rest (records_from (end - at) s) at end (start_at s at end q)

@@ -1,5 +1,5 @@
 -- The check of a contract sheet: how it ends, and what a sheet that passed has passed. Assumes nothing.
-use mathlib.Core.Path.{◌≡◌, refl, ap}
+use mathlib.Core.Path.{◌≡◌, refl}
 use mathlib.Core.Bool.{Bool, true, false}
 use mathlib.Core.List.{List, [], ◌∷◌}
 use Prim.Native.Nat.{ℕ, ◌≤◌}
@@ -10,16 +10,7 @@ use Rattle.definitions.specs.Result.{err, ok, ◌>>◌, check}
 use Rattle.definitions.specs.Records.{Form, Good, Bad}
 use Rattle.definitions.specs.ContractSheet.{refusal3, refusal4}
 use Rattle.definitions.specs.Answers.{refusal, refuse_form, check_contract}
-use Rattle.std.specs.Prelude as code
-use Rattle.ir.specs.Answers.{done_of}
-use Rattle.sheet.specs.declared.errors.ContractError.{ContractError}
-use Rattle.sheet.specs.Forms.{refusal_of}
 use Rattle.sheet.specs.Passed.{ContractPassed}
-
--- an error that `?` passed on
-pub passed_on : (r : code.Result (Unit {0}) ContractError) (e : ContractError) → code.IsErr r × code.IsErrAnd r (λ x. x ≡ e) → done_of refusal_of r ≡ err (refusal_of e)
-passed_on (code.Err x) e h = ap (λ (y : ContractError). err (refusal_of y)) h.1
-passed_on (code.Ok a) e h = absurd cc
 
 module _ (s : List ℕ) (h : length s ≤ 32768) where
   pub malformed : {p : ℕ} → Bad p ≡ refusal3 s → err (refusal 3 (p ∷ [])) ≡ check_contract s

@@ -3,6 +3,12 @@ use Rattle.std.proofs.Common.{◌≡◌, ℕ, zero, suc, ◌+◌, ◌*◌, ◌<�
 use Rattle.std.specs.Bool.{MatchBool}
 use Rattle.std.specs.List.{AllWithin, HoldsAt, range_with_len}
 use Rattle.std.proofs.lemmas.List.FromFn.{get_or-range_with_len, length-range_with_len}
+use Rattle.std.specs.Iterator.{ChecksAll}
+use Rattle.std.specs.Fn.{Called}
+use Rattle.std.specs.declared.ops.Range.{Range}
+use Rattle.std.proofs.iter.Yields.{nat_range_steps}
+use Rattle.std.proofs.lemmas.Iterator.{cases_from_all, YieldsList-from_range}
+use denote.Param.Members.{Mut}
 use native.Mathlib.Nat.{mul-suc, not-suc-le-zero}
 use Rattle.definitions.specs.Grammar.{Entry, Pattern}
 use Rattle.definitions.specs.Records.{size_of, ok_item, ok_items, may_end}
@@ -84,3 +90,8 @@ module _ (e : Entry) (s : List ℕ) where
       let h : f.0 < n = omega (arith, f.1, length-range_with_len 0 n) in
       let z : get_or (range_with_len 0 n) f.0 0 ≡ f.0 = omega (arith, get_or-range_with_len 0 n f.0 0 h) in
       sym (one_invalid n at f.0 h (rw z at (f.2 0)))
+
+  -- the code's loop over n entries, whatever it asks of each
+  pub all_valid : {F : Type 0} {g : Mut F (ℕ × Unit {0}) Bool} (n at : ℕ) (u : Range ℕ) (f : F) (r : Bool) → ChecksAll nat_range_steps g (record { start = 0; end = n }) f r u
+      → ((x : ℕ) (q : F) → Called g f (x, tt) true q → (q ≡ f) × Valid at x) → ((x : ℕ) (q : F) → Called g f (x, tt) false q → Invalid at x) → r ≡ ok_items e n s at
+  all_valid n at u f r ran holds fails = valid n at r (cases_from_all u f r (Valid at) (Invalid at) ran (YieldsList-from_range 0 n n refl (omega arith)) holds fails)

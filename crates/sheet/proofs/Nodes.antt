@@ -1,5 +1,5 @@
 -- The record that stands at a place of a sheet that passed, as the reader gives it. Assumes nothing.
-use mathlib.Core.Path.{◌≡◌, sym, ap, ◌∙◌}
+use mathlib.Core.Path.{◌≡◌, refl, sym, ap, ◌∙◌}
 use mathlib.Core.List.{List}
 use Prim.Native.Nat.{ℕ, ◌+◌, ◌<◌, ◌≤◌}
 use native.Mathlib.Omega.{arith}
@@ -8,8 +8,10 @@ use Rattle.definitions.specs.Grammar.{Class, Field, Pattern, rows}
 use Rattle.definitions.specs.Records.{no_row, row_in, row_fields, fields_end, read_values}
 use Rattle.definitions.specs.Fine.{Head, Fine, ends, goes}
 use Rattle.definitions.proofs.Sheets.Passed.{read_step}
-use Rattle.format.specs.Kinds.{number_of}
+use Rattle.std.specs.Prelude.{Result, Ok, Err, IsOk}
+use Rattle.format.specs.Kinds.{IsKind}
 use Rattle.format.specs.declared.kinds.Kind.{Kind}
+use Rattle.format.specs.declared.kinds.UnknownKind.{UnknownKind}
 use Rattle.sheet.proofs.Rows.{unknown}
 use Rattle.sheet.specs.Passed.{Passed, Standing, Node, record_kind, stop_of, body_of, values_at}
 
@@ -45,8 +47,9 @@ in_order {s} {at} {end} p = go p.fine
     go (goes hd a kids rest) = omega (arith, hd.low, hd.mid, hd.high)
 
 -- its kind is one that `Kind::try_from` knows
-pub known : {s : List ℕ} {at stop k : ℕ} → Standing s at stop k → {n : ℕ} → n ≡ record_kind s at → ((i : Kind) → number_of i ≡ n → ⊥) → ⊥
-known {s} {at} w e f =
+pub known : {s : List ℕ} {at stop k : ℕ} → Standing s at stop k → {n : ℕ} → n ≡ record_kind s at → (r : Result Kind UnknownKind) → IsKind n r → IsOk r
+known w e (Ok i) f = refl
+known {s} {at} w e (Err x) f =
     let h = opens w.passed w.starts in
     let a : row_in (record_kind s at) rows ≡ no_row = rw (← e) (unknown f) in
     absurd (cc (a, h.head.is))

@@ -1,5 +1,5 @@
 -- Refusal 4, one record at a time, and each way of the code through it. Assumes nothing.
-use mathlib.Core.Path.{◌≡◌, refl, sym, ap}
+use mathlib.Core.Path.{◌≡◌, refl, sym}
 use mathlib.Core.Bool.{Bool, true, false, ◌||◌}
 use mathlib.Core.List.{List}
 use Prim.Native.Nat.{ℕ, suc, ◌+◌, ◌<◌, ◌≤◌}
@@ -14,18 +14,9 @@ use Rattle.definitions.specs.ContractSheet.{count_trees, Counts, none_before, Me
 use Rattle.definitions.proofs.Results.{by_test}
 use Rattle.definitions.proofs.Contracts.Limits.{measured}
 use Rattle.definitions.proofs.Sheets.Passed.{read_end}
-use Rattle.sheet.specs.Forms.{limits_of}
 use Rattle.sheet.specs.Limits.{total, and_kind, too_many, too_wide}
 use Rattle.sheet.specs.Passed.{Node, Passed, Standing, record_kind, stop_of, body_of, values_at, children_of}
-use Rattle.std.specs.Prelude.{Result, Ok, Err, IsErr, IsErrAnd}
-use Rattle.sheet.specs.declared.errors.OverLimit.{OverLimit}
 use Rattle.sheet.proofs.Nodes.{opens, in_order}
-
--- an error that `?` passed on
-pub passed_on : (r : Result (Unit {0}) OverLimit) {e : OverLimit} → IsErr r × IsErrAnd r (λ x. x ≡ e) → limits_of r ≡ Bad e.0
-unfolding limits_of
-passed_on (Err fault) h = ap (λ (x : OverLimit). Bad x.0) h.1
-passed_on (Ok a) h = absurd cc
 
 -- the depth is looked at first by the code, and last by `over`
 depth_first : (x y d : Bool) → (x || (y || (d || false))) ≡ (d || (x || y))

@@ -17,5 +17,5 @@ limits_of (Err fault) = Bad fault.0
 
 abbrev pub refusal_of : ContractError → Refusal
 refusal_of error.TooLong = refusal 1 []
-refusal_of (error.Malformed p) = refusal 3 (p ∷ [])
-refusal_of (error.OverLimit p) = refusal 4 (p ∷ [])
+refusal_of (error.Malformed fault) = refusal 3 (fault.0 ∷ [])
+refusal_of (error.OverLimit fault) = refusal 4 (fault.0 ∷ [])

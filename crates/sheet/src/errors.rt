@@ -2,65 +2,42 @@
 ghost use Rattle.std.specs.Prelude.{◌≡◌};
 ghost use Rattle.sheet.specs.declared.errors.ContractError.TheVariants as error;
 
-use std::error::Error;
-use std::fmt;
+use thiserror::Error;
 
 // No record that fits starts at this place, or surplus begins there.
-#[derive(Clone, Copy, Debug, PartialEq, Eq)]
+#[derive(Clone, Copy, Debug, PartialEq, Eq, Error)]
+#[error("no record of this form at byte {0}")]
 pub struct Malformed(pub usize);
 
 // The record at this place is the first that is over a limit.
-#[derive(Clone, Copy, Debug, PartialEq, Eq)]
+#[derive(Clone, Copy, Debug, PartialEq, Eq, Error)]
+#[error("the record at byte {0} is over a limit")]
 pub struct OverLimit(pub usize);
 
 // Why a contract sheet is refused before it is walked.
-#[derive(Clone, Copy, Debug, PartialEq, Eq)]
+#[derive(Clone, Copy, Debug, PartialEq, Eq, Error)]
 pub enum ContractError {
+    #[error("the sheet is too long")]
     TooLong,
-    Malformed(usize),
-    OverLimit(usize),
+    #[error(transparent)]
+    Malformed(Malformed),
+    #[error(transparent)]
+    OverLimit(OverLimit),
 }
 
+// By hand: the derive's `From` has no `from_gives`, so nothing would be known of the error that `?` hands on.
 impl From<Malformed> for ContractError {
-    ghost from_gives = { λ fault e. e ≡ error.Malformed fault.0 };
+    ghost from_gives = { λ fault e. e ≡ error.Malformed fault };
 
     fn from(fault: Malformed) -> ContractError {
-        ContractError::Malformed(fault.0)
+        ContractError::Malformed(fault)
     }
 }
 
 impl From<OverLimit> for ContractError {
-    ghost from_gives = { λ fault e. e ≡ error.OverLimit fault.0 };
+    ghost from_gives = { λ fault e. e ≡ error.OverLimit fault };
 
     fn from(fault: OverLimit) -> ContractError {
-        ContractError::OverLimit(fault.0)
+        ContractError::OverLimit(fault)
     }
 }
-
-impl fmt::Display for Malformed {
-    fn fmt<W: fmt::Write>(&self, f: &mut fmt::Formatter<W>) -> fmt::Result {
-        write!(f, "no record of this form at byte {}", self.0)
-    }
-}
-
-impl fmt::Display for OverLimit {
-    fn fmt<W: fmt::Write>(&self, f: &mut fmt::Formatter<W>) -> fmt::Result {
-        write!(f, "the record at byte {} is over a limit", self.0)
-    }
-}
-
-impl fmt::Display for ContractError {
-    fn fmt<W: fmt::Write>(&self, f: &mut fmt::Formatter<W>) -> fmt::Result {
-        match self {
-            ContractError::TooLong => f.write_str("the sheet is too long"),
-            ContractError::Malformed(place) => Malformed(*place).fmt(f),
-            ContractError::OverLimit(place) => OverLimit(*place).fmt(f),
-        }
-    }
-}
-
-impl Error for Malformed {}
-
-impl Error for OverLimit {}
-
-impl Error for ContractError {}

@@ -11,12 +11,8 @@ use crate::tables::{Entry, Field};
 use format::operators::BinOp;
 use format::program::ContextKind;
 use format::{COUNT, HIGHEST_ID, ID, TYPE, contract, program};
+use ir::{STRUCT_CODE, VOID_CODE};
 use reader::read;
-
-// The tags of a type that has a name, and of Void, which is the last.
-const STRUCT: usize = 3;
-
-const VOID: usize = 4;
 
 // A name or an id: 65,535 is none.
 fn name_valid(s: &[u8], at: usize) -> bool
@@ -26,7 +22,7 @@ fn name_valid(s: &[u8], at: usize) -> bool
     read(s, at, ID) <= HIGHEST_ID
 }
 
-// A type: a tag and a name, which is 0 unless the tag is a struct's.
+// A type: a tag, of which Void's is the last, and a name, which is 0 unless the tag is a struct's.
 #[tactic(auto, unfolding(definitions::specs::Records::ok_type))]
 fn type_valid(s: &[u8], at: usize) -> bool
     requires { at + 4 ≤ length s.now }
@@ -34,10 +30,10 @@ fn type_valid(s: &[u8], at: usize) -> bool
 {
     let tag = read(s, at, 2);
     let name = read(s, at + 2, ID);
-    if tag == STRUCT {
+    if tag == STRUCT_CODE {
         return name <= HIGHEST_ID;
     }
-    tag <= VOID && name == 0
+    tag <= VOID_CODE && name == 0
 }
 
 impl Entry {
@@ -91,7 +87,9 @@ impl Entry {
     }
 }
 
-// The place after n bytes of any value, in a record that stops at `stop`, if they fit.
+// The place after n bytes of any value, in a record that stops at `stop`, if they fit. A branch: `then_some` would add n where it does not fit.
+// Sheet, place and stop are no struct, here and below: each function would have to promise besides that the sheet and the stop stay as they
+// are, and the form takes 3.5 percent more instructions (tried).
 fn past_bytes(at: usize, stop: usize, n: usize) -> Option<usize>
     requires { (at ≤ stop) }
     ensures { option_of (λ p. p) result ≡ pick (leb n (stop - at)) (some (at + n)) none }
@@ -106,11 +104,7 @@ fn past_u16(s: &[u8], at: usize, stop: usize, most: usize) -> Option<usize>
     ensures { option_of (λ p. p) result ≡ past (single (up_to most)) s.now stop at }
 {
     let next = past_bytes(at, stop, 2)?;
-    if read(s, at, 2) <= most {
-        Some(next)
-    } else {
-        None
-    }
+    (read(s, at, 2) <= most).then_some(next)
 }
 
 // The same for a type.
@@ -120,7 +114,7 @@ fn past_type(s: &[u8], at: usize, stop: usize) -> Option<usize>
     ensures { option_of (λ p. p) result ≡ past (single ir_type) s.now stop at }
 {
     let next = past_bytes(at, stop, TYPE)?;
-    if type_valid(s, at) { Some(next) } else { None }
+    type_valid(s, at).then_some(next)
 }
 
 // The same for a count and so many entries.
@@ -132,11 +126,7 @@ fn past_counted(s: &[u8], at: usize, stop: usize, entry: Entry) -> Option<usize>
     let first = past_bytes(at, stop, COUNT)?;
     let count = read(s, at, COUNT);
     let next = past_bytes(first, stop, entry.size() * count)?;
-    if entry.all_valid(s, first, count) {
-        Some(next)
-    } else {
-        None
-    }
+    entry.all_valid(s, first, count).then_some(next)
 }
 
 // The same for entries to the record's end.
@@ -150,11 +140,7 @@ fn past_listed(s: &[u8], at: usize, stop: usize, entry: Entry) -> Option<usize>
     if room % size != 0 {
         return None;
     }
-    if entry.all_valid(s, at, room / size) {
-        Some(stop)
-    } else {
-        None
-    }
+    entry.all_valid(s, at, room / size).then_some(stop)
 }
 
 // The same for any field.

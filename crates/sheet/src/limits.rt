@@ -1,4 +1,4 @@
-// Refusal 4: the first record that is too many, too wide or too deep.
+// Refusal 4: the first record that is too many, too wide or too deep. Sheet, place and stop are no struct, as in `fixed_fields`.
 ghost use Rattle.std.specs.Prelude.{◌≡◌, ◌≤◌, ◌<◌, length};
 ghost use Rattle.definitions.specs.Records.{read_records};
 ghost use Rattle.definitions.specs.ContractSheet.{count_trees, none_before, limit_trees};
@@ -9,23 +9,13 @@ ghost use Rattle.sheet.specs.Passed.{Passed, Standing, values_at, children_of};
 
 use crate::OverLimit;
 use crate::places::{body_of, count, kind_of};
-use format::contract::{AFTER_NAME, MOST_DEPTH, PARAM, PARAM_COUNT};
+use format::contract::{
+    AFTER_NAME, MOST_ARGUMENTS, MOST_DEPTH, MOST_FIELDS, MOST_FUNCTIONS, MOST_PARAMS, MOST_STORAGE,
+    MOST_STRUCTS, PARAM, PARAM_COUNT,
+};
 use format::kinds::{Expr, Item, Kind, Stmt};
 use format::{COUNT, LENGTH_BYTES};
 use reader::read;
-
-// What a contract may have at most of each, a struct of fields, a function of parameters, an Emit or a Call of arguments.
-const MOST_STORAGE: usize = 256;
-
-const MOST_STRUCTS: usize = 64;
-
-const MOST_FUNCTIONS: usize = 64;
-
-const MOST_FIELDS: usize = 64;
-
-const MOST_PARAMS: usize = 16;
-
-const MOST_ARGUMENTS: usize = 16;
 
 // How many storage fields, structs and functions stand before a record.
 #[derive(Clone, Copy, Debug, PartialEq, Eq)]
@@ -84,7 +74,7 @@ fn too_wide(s: &[u8], at: usize, stop: usize, kind: Kind) -> bool
     }
 }
 
-// The records from `at` to `end`, at a depth.
+// The records from `at` to `end`, at a depth. The loop counts no index: it steps by the length that a record has.
 pub(crate) fn limits(s: &[u8], at: usize, end: usize, depth: usize) -> Result<(), OverLimit>
     requires { Passed s.now at end × ((end ≤ length s.now) × (depth ≤ 41)) }
     ensures { limits_of result ≡ limit_trees (read_records s.now at end) depth none_before }

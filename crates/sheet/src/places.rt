@@ -1,14 +1,17 @@
-// Where things stand in a record that passed the check of its form: no validity is tested again.
-ghost use Rattle.std.specs.Prelude.{◌≡◌, ◌≤◌, length};
-ghost use Rattle.definitions.specs.Records.{field_end, read_records};
+// Where things stand in a record that passed the check of its form: no validity is tested again. Sheet, place and stop are no struct, as in
+// `fixed_fields`.
+ghost use Rattle.std.specs.Prelude.{◌≡◌, ◌+◌, ◌≤◌, length};
+ghost use Rattle.definitions.specs.Fields.{le};
+ghost use Rattle.definitions.specs.Records.{field_end, opt_from, read_records};
 ghost use Rattle.definitions.specs.ContractSheet.{count_trees};
 ghost use Rattle.format.specs.Kinds.{number_of};
+ghost use Rattle.ir.specs.Answers.{option_of};
 ghost use Rattle.sheet.specs.Passed.{Passed, Standing, record_kind, body_of};
 ghost use Rattle.sheet.specs.Tables.{field_of};
 
 use crate::tables::{Field, row_of};
 use format::kinds::Kind;
-use format::{COUNT, HEAD, ID, KIND, LENGTH_BYTES, TYPE, program};
+use format::{ABSENT, COUNT, HEAD, ID, KIND, LENGTH_BYTES, TYPE, program};
 use reader::{read, read_u16};
 
 // The place after a field.
@@ -34,10 +37,7 @@ pub(crate) fn kind_of(s: &[u8], at: usize, stop: usize) -> Kind
     requires { Standing s.now at stop (record_kind s.now at) }
     ensures { number_of result ≡ record_kind s.now at }
 {
-    match Kind::try_from(read_u16(s, at + KIND)) {
-        Ok(kind) => kind,
-        Err(_) => unreachable!(),
-    }
+    Kind::try_from(read_u16(s, at + KIND)).unwrap()
 }
 
 // Where the children of a record start.
@@ -50,6 +50,16 @@ pub(crate) fn body_of(s: &[u8], at: usize, stop: usize, kind: Kind) -> usize
         place = field_end(s, place, stop, field);
     }
     place
+}
+
+// The id or name at a place, unless it is absent.
+#[tactic(auto, unfolding(definitions::specs::Records::opt_from))]
+pub fn opt_id(s: &[u8], at: usize) -> Option<u16>
+    requires { at + 2 ≤ length s.now }
+    ensures { option_of (λ n. n) result ≡ opt_from (le 2 s.now at) }
+{
+    let id = read_u16(s, at);
+    (id != ABSENT).then_some(id)
 }
 
 // How many records stand from `at` to `end`. An iterator over them would have to know that they passed, and that is a proof tree and no

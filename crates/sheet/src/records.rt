@@ -1,4 +1,5 @@
-// Refusals 3 and 40: the lowest place at which a record should start, or surplus begins, and none starts.
+// Refusals 3 and 40: the lowest place at which a record should start, or surplus begins, and none starts. Sheet, place and stop are no struct, as in
+// `fixed_fields`.
 ghost use Rattle.std.specs.Prelude.{◌≡◌, ◌≤◌, ◌<◌, length, IfErr};
 ghost use Rattle.definitions.specs.Records.{may_end, after, check_records};
 ghost use Rattle.definitions.specs.Records as records;
@@ -94,7 +95,8 @@ fn start_at<'a>(
 }
 
 // The records from `at` to `end` follow a pattern, each with its children: first those, then what stands after it. So the first
-// fault is the lowest. A record takes 6 bytes or more, so the bytes left fall with each call, to any depth.
+// fault is the lowest. A record takes 6 bytes or more, so the bytes left fall with each call, to any depth. The loop counts no index: it
+// steps by the length that a record has.
 pub(crate) fn records(s: &[u8], at: usize, end: usize, pattern: &[Child]) -> Result<(), Malformed>
     requires { (at ≤ end) × (end ≤ length s.now) }
     ensures { form_of result ≡ check_records s.now at end (pattern_of pattern.now) }

@@ -2,12 +2,12 @@
 use mathlib.Core.Path.{◌≡◌, refl, sym, ◌∙◌}
 use mathlib.Core.List.{[], ◌∷◌}
 use Prim.Native.Nat.{ℕ}
-use Rattle.std.specs.Prelude.{Option, Result, Ok, Err, IsErr, IsErrAnd}
+use Rattle.std.specs.Prelude.{Option, Result, Ok, Err}
 use Rattle.definitions.specs.Result.{err, ok, ◌>>=◌, ◌>>◌, check, Done}
 use Rattle.definitions.specs.Ir.{eq_type}
 use Rattle.definitions.specs.Ir as ir
 use Rattle.definitions.specs.Verify.{VerifyError, Checked, Defined, check_value_ref, check_value_refs, verify_instr, verify_terminator}
-use Rattle.format.specs.declared.kinds.Instruction.{Instruction as Kind}
+use Rattle.format.specs.declared.operators.BinOp.{BinOp}
 use Rattle.format.specs.declared.program.ContextKind.{ContextKind}
 use Rattle.ir.specs.declared.IrType.{IrType}
 use Rattle.ir.specs.declared.Name.{Name}
@@ -26,7 +26,7 @@ use Rattle.verify_state.specs.Errors.{Outcome, error_of, checked_of, named}
 use Rattle.verify_state.specs.Promises.{Says, Checks}
 use Rattle.verify_state.specs.declared.VerifyError.{VerifyError as Fault}
 use Rattle.verify_refs.specs.Promises.{Finds, function_check, local_check, target_check, operands_check, condition_check, return_check, instr_check, term_check}
-use Rattle.verify_state.proofs.Steps.{handed_on, Leads, lead_over, lead_failed, lead_passed, says_all}
+use Rattle.verify_state.proofs.Steps.{Leads, lead_over, lead_failed, lead_passed, says_all}
 use Rattle.verify_refs.proofs.Values.{value_failed, value_passed}
 
 -- ONE VALUE as a list of values
@@ -63,7 +63,7 @@ module _ (f : Function) {i : Instruction} where
   context_read e = rw e (record { says = λ ds S. refl })
 
   module _ {r : Outcome} where
-    pub binary : {k : Kind} {t : IrType} {a b : ValueId} → i ≡ instr.Binary k t a b → Checks f r (operands_check t a.0 b.0) → Gives f i r
+    pub binary : {op : BinOp} {t : IrType} {a b : ValueId} → i ≡ instr.Binary op t a b → Checks f r (operands_check t a.0 b.0) → Gives f i r
     unfolding verify_instr operands_check
     binary e h = rw e h
 
@@ -92,8 +92,8 @@ pub record Parts (f : Function) (i : Instruction) (first rest : Defined → Chec
   pub leads : Leads f (instr_check f (instr_is i)) (λ (ds : Defined). first ds >> rest ds)
 
 module _ {f : Function} {i : Instruction} {first rest : Defined → Checked Done} (P : Parts f i first rest) where
-  pub handed : (x : Fault) (r : Result (Unit {0}) Fault) → IsErr r × IsErrAnd r (λ (e : Fault). e ≡ x) → Checks f (err (error_of x)) first → Gives f i (checked_of r)
-  handed x r e h = rw (handed_on r x e) (lead_failed first rest P.leads h)
+  pub handed : {x : Fault} {r : Result (Unit {0}) Fault} → r ≡ Err x → Checks f (err (error_of x)) first → Gives f i (checked_of r)
+  handed e h = rw e (lead_failed first rest P.leads h)
 
   pub second : {r : Outcome} → Checks f (ok tt) first → Checks f r rest → Gives f i r
   second h g = lead_over (lead_passed first rest P.leads h) g

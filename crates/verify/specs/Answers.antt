@@ -9,7 +9,7 @@ use Rattle.verify.specs.declared.refusal.Refusal.TheVariants.{TooLong, Malformed
 -- a refusal, and the answer to a sheet: document 01's number with its details
 abbrev pub refusal_of : Refusal → answers.Refusal
 refusal_of TooLong = answers.refusal 1 []
-refusal_of (Malformed p) = answers.refusal 40 (p ∷ [])
+refusal_of (Malformed fault) = answers.refusal 40 (fault.0 ∷ [])
 refusal_of (Verify e) = answers.verify_refusal (error_of e)
 
 abbrev pub answer_of : Result (Unit {0}) Refusal → answers.Answer

@@ -3,23 +3,25 @@ ghost use Rattle.std.specs.Prelude.{◌≡◌};
 ghost use Rattle.verify.specs.declared.refusal.Refusal.TheVariants as refusal;
 
 use sheet::Malformed;
-use std::error::Error;
-use std::fmt;
+use thiserror::Error;
 use verify_state::VerifyError;
 
-// `Malformed` has the place of the fault.
-#[derive(Clone, Copy, Debug, PartialEq, Eq)]
+#[derive(Clone, Copy, Debug, PartialEq, Eq, Error)]
 pub enum Refusal {
+    #[error("the sheet is too long")]
     TooLong,
-    Malformed(usize),
+    #[error(transparent)]
+    Malformed(Malformed),
+    #[error(transparent)]
     Verify(VerifyError),
 }
 
+// `From` by hand: the derive's has no `from_gives`, so that nothing were known of what `?` passes on.
 impl From<Malformed> for Refusal {
-    ghost from_gives = { λ fault r. r ≡ refusal.Malformed fault.0 };
+    ghost from_gives = { λ fault r. r ≡ refusal.Malformed fault };
 
     fn from(fault: Malformed) -> Refusal {
-        Refusal::Malformed(fault.0)
+        Refusal::Malformed(fault)
     }
 }
 
@@ -30,15 +32,3 @@ impl From<VerifyError> for Refusal {
         Refusal::Verify(e)
     }
 }
-
-impl fmt::Display for Refusal {
-    fn fmt<W: fmt::Write>(&self, f: &mut fmt::Formatter<W>) -> fmt::Result {
-        match self {
-            Refusal::TooLong => f.write_str("the sheet is too long"),
-            Refusal::Malformed(place) => Malformed(*place).fmt(f),
-            Refusal::Verify(e) => write!(f, "{e}"),
-        }
-    }
-}
-
-impl Error for Refusal {}

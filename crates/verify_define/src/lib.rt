@@ -4,7 +4,6 @@
 ghost use Rattle.verify_state.specs.Errors.{checked_of};
 ghost use Rattle.verify_define.specs.Promises.{DefinesResult, DefinesBlock, DefinesBlocks, DefinesParams};
 
-use format::kinds::{InBlock, Kind};
 use program_nodes::{Block, Function, Instr, Record};
 use verify_state::VerifyError;
 
@@ -30,7 +29,7 @@ fn define_result(f: Function<'_>, instr: Instr<'_>) -> Result<(), VerifyError>
     };
     let first = verify_lookup::is_first_definition(f, value, instr.at);
     let Some(_) = instr.result_type() else {
-        let kind = u16::from(Kind::InBlock(InBlock::Instruction(instr.kind())));
+        let kind = instr.kind();
         return Err(VerifyError::ResultOnNone(f.name, kind));
     };
     if !first {

@@ -99,10 +99,7 @@ pub fn defined_type(f: Function<'_>, v: ValueId) -> Option<IrType>
 pub fn is_first_definition(f: Function<'_>, v: ValueId, place: usize) -> bool
     ensures { result ≡ is_at (first_definition v.0 (definitions_of f.entry)) place }
 {
-    match first_definition(f, v) {
-        Some(definition) => definition.place() == place,
-        None => false,
-    }
+    first_definition(f, v).is_some_and(|definition| definition.place() == place)
 }
 
 // The first block of the function with the id.

@@ -10,8 +10,9 @@ ghost use Rattle.ir.specs.Types.{as_type};
 ghost use Rattle.verify_state.specs.Errors.{error_of};
 ghost use Rattle.verify.specs.Answers.{answer_of};
 
-use ir::{IrType, NO_TYPE, PER_NAME};
+use ir::{IrType, NO_TYPE};
 use numbers::Numbers;
+use sheet::Malformed;
 use verify::Refusal;
 use verify_state::VerifyError;
 
@@ -19,8 +20,8 @@ use verify_state::VerifyError;
 fn type_numbers(t: IrType) -> (usize, usize)
     ensures { (result.0 ≡ tag_of (as_type t)) × (result.1 ≡ name_of (as_type t)) }
 {
-    let code = u32::from(t) as usize;
-    (code % PER_NAME, code / PER_NAME)
+    let (tag, name) = t.parts();
+    (tag as usize, name as usize)
 }
 
 // Those of the type that was got, if there is one.
@@ -58,7 +59,7 @@ fn error_numbers(e: VerifyError) -> Numbers
         }
         VerifyError::UndefinedLocal(f, l) => Numbers::new([48, f.0 as usize, l.0 as usize]),
         VerifyError::UndefinedFunction(f, g) => Numbers::new([49, f.0 as usize, g.0 as usize]),
-        VerifyError::ResultOnNone(f, k) => Numbers::new([50, f.0 as usize, k as usize]),
+        VerifyError::ResultOnNone(f, kind) => Numbers::new([50, f.0 as usize, kind as usize]),
     }
 }
 
@@ -69,7 +70,7 @@ pub fn verify_numbers(answer: Result<(), Refusal>) -> Numbers
     match answer {
         Ok(()) => Numbers::new([]),
         Err(Refusal::TooLong) => Numbers::new([1]),
-        Err(Refusal::Malformed(place)) => Numbers::new([40, place]),
+        Err(Refusal::Malformed(Malformed(place))) => Numbers::new([40, place]),
         Err(Refusal::Verify(e)) => error_numbers(e),
     }
 }

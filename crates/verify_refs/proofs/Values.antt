@@ -3,12 +3,14 @@ use mathlib.Core.Path.{◌≡◌, refl, ap, sym}
 use mathlib.Core.List.{List, [], ◌∷◌}
 use mathlib.Core.Option.{Option, none, some}
 use Prim.Native.Nat.{ℕ}
-use Rattle.std.specs.Prelude.{Ok, Err}
+use Rattle.std.specs.Prelude.{Option as Option', None, Some, Ok, Err}
+use Rattle.std.specs.Option.{ok_or}
 use Rattle.definitions.specs.Result.{Result, err, ok, ◌>>◌, map_err}
 use Rattle.definitions.specs.Ir as ir
 use Rattle.definitions.specs.Verify.{VerifyError, Checked, Defined, defined_type, check_value_ref, check_value_refs}
 use Rattle.definitions.proofs.Results.{err_ok, ok_inj}
 use Rattle.ir.specs.Types.{as_type}
+use Rattle.ir.specs.Answers.{option_of}
 use Rattle.ir.specs.declared.IrType.{IrType}
 use Rattle.program_nodes.specs.Definitions.{Definition, type_of_definition, first_type}
 use Rattle.program_nodes.specs.Nodes.{definitions_of}
@@ -27,11 +29,15 @@ agrees (some e) none h = absurd h
 agrees (some e) (some t) h = h
 
 module _ (f : Function) (v : ℕ) where
-  pub finds_type : (t : IrType) → some (as_type t) ≡ first_type v (definitions_of f) → Finds f v (Ok t)
+  finds_type : (t : IrType) → some (as_type t) ≡ first_type v (definitions_of f) → Finds f v (Ok t)
   finds_type t e = record { finds = λ ds S. rw (← agrees _ (defined_type v ds) (S v), ← e, check_value_ref) }
 
-  pub finds_none : (x : Fault) → error_of x ≡ (f.name.0, VerifyError.UndefinedValue v) → none ≡ first_type v (definitions_of f) → Finds f v (Err x)
+  finds_none : (x : Fault) → error_of x ≡ (f.name.0, VerifyError.UndefinedValue v) → none ≡ first_type v (definitions_of f) → Finds f v (Err x)
   finds_none x z e = record { finds = λ ds S. rw (← agrees _ (defined_type v ds) (S v), ← e, check_value_ref, z) }
+
+  pub finds : (o : Option' IrType) (x : Fault) → error_of x ≡ (f.name.0, VerifyError.UndefinedValue v) → option_of as_type o ≡ first_type v (definitions_of f) → Finds f v (ok_or o x)
+  finds None x z e = finds_none x z e
+  finds (Some t) x z e = finds_type t e
 
 -- what that says of a check
 abbrev pair : ℕ → VerifyError → ℕ × VerifyError

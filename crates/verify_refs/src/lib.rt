@@ -14,7 +14,7 @@ use ir::{BlockId, FunctionId, IrType, LocalId, ValueId};
 use program_nodes::{Function, Ids};
 use verify_state::VerifyError;
 
-// Whether two types are the same.
+// Whether two types are the same: `==` with the equation that the definitions' `eq_type` has, which the derived one does not state.
 fn same_type(a: IrType, b: IrType) -> bool
     ensures { result ≡ eq_type (as_type a) (as_type b) }
 {
@@ -27,10 +27,7 @@ fn same_type(a: IrType, b: IrType) -> bool
 pub fn check_value(f: Function<'_>, v: ValueId) -> Result<IrType, VerifyError>
     ensures { Finds f.entry v.0 result }
 {
-    match verify_lookup::defined_type(f, v) {
-        Some(ty) => Ok(ty),
-        None => Err(VerifyError::UndefinedValue(f.name, v)),
-    }
+    verify_lookup::defined_type(f, v).ok_or(VerifyError::UndefinedValue(f.name, v))
 }
 
 // Each of the values is defined.
@@ -84,10 +81,7 @@ pub fn check_operands(
 {
     let lhs = check_value(f, l)?;
     let rhs = check_value(f, r)?;
-    if !same_type(lhs, ty) {
-        return Err(VerifyError::OperandTypeMismatch(f.name, lhs, rhs));
-    }
-    if !same_type(rhs, ty) {
+    if !same_type(lhs, ty) || !same_type(rhs, ty) {
         return Err(VerifyError::OperandTypeMismatch(f.name, lhs, rhs));
     }
     Ok(())
@@ -105,10 +99,7 @@ pub fn check_return(f: Function<'_>, value: Option<ValueId>) -> Result<(), Verif
         return Err(VerifyError::ReturnTypeMismatch(f.name, expected, None));
     };
     let got = check_value(f, v)?;
-    if same_type(expected, IrType::Void) {
-        return Err(VerifyError::ReturnTypeMismatch(f.name, expected, Some(got)));
-    }
-    if !same_type(expected, got) {
+    if same_type(expected, IrType::Void) || !same_type(expected, got) {
         return Err(VerifyError::ReturnTypeMismatch(f.name, expected, Some(got)));
     }
     Ok(())

@@ -1,20 +1,13 @@
 -- A part of the check that failed or passed, and what follows it. Assumes nothing.
-use mathlib.Core.Path.{◌≡◌, refl, ap, sym, ◌∙◌}
+use mathlib.Core.Path.{◌≡◌, refl, sym, ◌∙◌}
 use Prim.Native.Nat.{ℕ}
-use Rattle.std.specs.Prelude.{Result, Ok, Err, IsErr, IsErrAnd}
 use Rattle.definitions.specs.Result.{err, ok, ◌>>=◌, ◌>>◌, map_err, Done}
 use Rattle.definitions.specs.Verify.{VerifyError, Checked, Defined}
 use Rattle.definitions.proofs.Results.{err_ok}
 use Rattle.program_nodes.specs.Nodes.{definitions_of}
 use Rattle.program_nodes.specs.declared.program.Function.{Function}
-use Rattle.verify_state.specs.Errors.{Outcome, error_of, checked_of, named}
-use Rattle.verify_state.specs.declared.VerifyError.{VerifyError as VerifyFault}
+use Rattle.verify_state.specs.Errors.{Outcome, named}
 use Rattle.verify_state.specs.Promises.{SameTable, Says, Checks}
-
--- an error that `?` handed on
-pub handed_on : (r : Result (Unit {0}) VerifyFault) (x : VerifyFault) → IsErr r × IsErrAnd r (λ e. e ≡ x) → checked_of r ≡ err (error_of x)
-handed_on (Err e) x h = ap (λ (y : VerifyFault). err (error_of y)) h.1
-handed_on (Ok a) x h = absurd h.1
 
 pub failed : {A B : Type 0} {x : ℕ × VerifyError} (n : ℕ) (r : Checked A) (k : A → Checked B) → err x ≡ named n r → err x ≡ named n (r >>= k)
 failed n (err y) k e = e

@@ -1,86 +1,32 @@
 // Why the verifier refuses.
 #![tactic(auto)]
 
-ghost use Rattle.std.specs.Prelude.{◌≡◌};
-ghost use Rattle.verify_state.specs.Errors.{error_of};
-
+use format::kinds;
 use ir::{BlockId, FunctionId, IrType, LocalId, Name, ValueId};
-use std::error::Error;
-use std::fmt;
+use thiserror::Error;
 
-// The Rust's `VerifyError`, the function's name first. `ResultOnNone` takes the place of a panic and has the instruction's kind.
-#[derive(Clone, Copy, Debug, PartialEq, Eq)]
+// The Rust's `VerifyError`: each variant has the function's name, as the Rust's have, and here it stands first. `ResultOnNone` takes the place of a
+// panic and has the instruction's kind. The texts have the numbers of names and ids, as the Rust's have: its ids have no Display.
+#[derive(Clone, Copy, Debug, PartialEq, Eq, Error)]
 pub enum VerifyError {
+    #[error("fn {}: undefined value %{}", .0.0, .1.0)]
     UndefinedValue(Name, ValueId),
+    #[error("fn {}: value %{} defined more than once", .0.0, .1.0)]
     DuplicateValueDef(Name, ValueId),
+    #[error("fn {}: undefined block bb{}", .0.0, .1.0)]
     UndefinedBlock(Name, BlockId),
+    #[error("fn {}: block bb{} has no terminator", .0.0, .1.0)]
     MissingTerminator(Name, BlockId),
+    #[error("fn {}: return type mismatch - expected {:?}, got {:?}", .0.0, .1, .2)]
     ReturnTypeMismatch(Name, IrType, Option<IrType>),
+    #[error("fn {}: branch condition %{} has type {:?} (expected Bool)", .0.0, .1.0, .2)]
     BranchConditionNotBool(Name, ValueId, IrType),
+    #[error("fn {}: operand type mismatch - lhs {:?}, rhs {:?}", .0.0, .1, .2)]
     OperandTypeMismatch(Name, IrType, IrType),
+    #[error("fn {}: undefined local l{}", .0.0, .1.0)]
     UndefinedLocal(Name, LocalId),
+    #[error("fn {}: call to undefined function id {}", .0.0, .1.0)]
     UndefinedFunction(Name, FunctionId),
-    ResultOnNone(Name, u16),
+    #[error("fn {}: an instruction of kind {} gives no result", .0.0, *.1 as u16)]
+    ResultOnNone(Name, kinds::Instruction),
 }
-
-impl VerifyError {
-    // The function's name.
-    fn function(self) -> Name
-        ensures { result.0 ≡ (error_of self).0 }
-    {
-        match self {
-            VerifyError::UndefinedValue(name, _)
-            | VerifyError::DuplicateValueDef(name, _)
-            | VerifyError::UndefinedBlock(name, _)
-            | VerifyError::MissingTerminator(name, _)
-            | VerifyError::ReturnTypeMismatch(name, _, _)
-            | VerifyError::BranchConditionNotBool(name, _, _)
-            | VerifyError::OperandTypeMismatch(name, _, _)
-            | VerifyError::UndefinedLocal(name, _)
-            | VerifyError::UndefinedFunction(name, _)
-            | VerifyError::ResultOnNone(name, _) => name,
-        }
-    }
-}
-
-impl fmt::Display for VerifyError {
-    fn fmt<W: fmt::Write>(&self, f: &mut fmt::Formatter<W>) -> fmt::Result {
-        write!(f, "fn {}: ", self.function().0)?;
-        match *self {
-            VerifyError::UndefinedValue(_, value) => write!(f, "undefined value %{}", value.0),
-            VerifyError::DuplicateValueDef(_, value) => {
-                write!(f, "value %{} defined more than once", value.0)
-            }
-            VerifyError::UndefinedBlock(_, block) => write!(f, "undefined block bb{}", block.0),
-            VerifyError::MissingTerminator(_, block) => {
-                write!(f, "block bb{} has no terminator", block.0)
-            }
-            VerifyError::ReturnTypeMismatch(_, expected, got) => {
-                write!(
-                    f,
-                    "return type mismatch - expected {:?}, got {:?}",
-                    expected, got
-                )
-            }
-            VerifyError::BranchConditionNotBool(_, value, ty) => {
-                write!(
-                    f,
-                    "branch condition %{} has type {:?} (expected Bool)",
-                    value.0, ty
-                )
-            }
-            VerifyError::OperandTypeMismatch(_, left, right) => {
-                write!(f, "operand type mismatch - lhs {:?}, rhs {:?}", left, right)
-            }
-            VerifyError::UndefinedLocal(_, local) => write!(f, "undefined local l{}", local.0),
-            VerifyError::UndefinedFunction(_, function) => {
-                write!(f, "call to undefined function id {}", function.0)
-            }
-            VerifyError::ResultOnNone(_, kind) => {
-                write!(f, "an instruction of kind {} gives no result", kind)
-            }
-        }
-    }
-}
-
-impl Error for VerifyError {}

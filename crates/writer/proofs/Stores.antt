@@ -18,7 +18,7 @@ zeros : (n : ℕ) → padded n [] ≡ replicate n 0
 zeros zero = refl
 zeros (suc n) = ap (λ (l : List ℕ). 0 ∷ l) (zeros n)
 
-padded_is : (n : ℕ) (l : List ℕ) → length l ≤ n → padded n l ≡ l ++ replicate (n - length l) 0
+pub padded_is : (n : ℕ) (l : List ℕ) → length l ≤ n → padded n l ≡ l ++ replicate (n - length l) 0
 padded_is n [] h = rw sub-zero (zeros n)
 padded_is zero (x ∷ l) h = absurd (omega arith)
 padded_is (suc n) (x ∷ l) h = let e : suc n - suc (length l) ≡ n - length l = omega arith in rw e (ap (λ (r : List ℕ). x ∷ r) (padded_is n l (omega arith)))

@@ -1,18 +1,22 @@
 -- One byte of a run that is stored, and a part of a slice that was lent and written whole. Assumes nothing.
 use mathlib.Core.Path.{◌≡◌, refl, sym, ap, ◌∙◌}
-use mathlib.Core.List.{List, ◌++◌, append_assoc}
+use mathlib.Core.List.{List, ◌++◌, append_assoc, append-nil}
 use Prim.Native.Nat.{ℕ, zero, suc, ◌+◌, ◌-◌, ◌/◌, ◌%◌, ◌≤◌, ◌<◌}
+use native.Mathlib.Nat.{zero-add}
 use native.Mathlib.Numerals.{add-one, sub-one}
 use native.Mathlib.Omega.{arith}
 use borrow.Rule.Slice.PartMut.{put_mid, Post-is}
 use lib.ListN.{length, get_or, set, take, drop}
-use lib.Seq.{sets, sets-eq, drop-cons}
+use lib.Seq.{sets, sets-eq, drop-cons, drop-length}
 use Rattle.definitions.specs.Fields.{bytes}
 
 pub bytes_front : (l : List ℕ) (at n v : ℕ) → 0 < n → sets l at (bytes n v) ≡ sets (set l at (v % 256)) (at + 1) (bytes (n - 1) (v / 256))
 unfolding bytes
 bytes_front l at zero v p = absurd (omega arith)
 bytes_front l at (suc n) v p = rw (sub-one, add-one) refl
+
+pub stored_whole : (l part : List ℕ) → length l ≡ length part → sets l 0 part ≡ part
+stored_whole l part e = sets-eq part l 0 (omega arith) ∙ rw (← e, zero-add) (ap (λ (r : List ℕ). part ++ r) (drop-length l) ∙ append-nil part)
 
 pub part_is_stored : (a e : ℕ) (l part : List ℕ) → a ≤ e → e ≤ length l → length part ≡ e - a → put_mid a (e - a) l part ≡ sets l a part
 part_is_stored a e l part h k long =

@@ -5,14 +5,14 @@ ghost use Rattle.std.specs.Prelude.{◌≡◌, ◌+◌, ◌-◌, ◌≤◌, leng
 ghost use Rattle.std.proofs.lemmas.List.Edits.{sets};
 ghost use Rattle.definitions.specs.Fields.{bytes};
 
-// Writes the n bytes of v at a place.
+// Writes the n bytes of v at a place, of any n, as the reader reads them.
 pub fn write(out: &mut [u8], at: usize, n: usize, v: usize)
     requires { at + n ≤ length out.old }
     ensures { out.new ≡ sets out.old at (bytes n v) }
 {
     let mut rest = v;
-    for i in 0..n {
-        out[at + i] = (rest % 256) as u8;
+    for byte in out[at..at + n].iter_mut() {
+        *byte = (rest % 256) as u8;
         rest /= 256;
     }
 }

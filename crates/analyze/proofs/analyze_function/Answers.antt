@@ -1,6 +1,6 @@
 -- `analyze::analyze_function`: its parameters, its return type and its statements. Assumes nothing.
 use mathlib.Core.Path.{ap, ◌∙◌}
-use Rattle.std.proofs.lemmas.Result.{err_from_is_err_and}
+use Rattle.ir.proofs.Exits.{exit}
 use Rattle.definitions.specs.Sema.{return_type}
 use Rattle.contract_nodes.specs.Nodes.{function_in}
 use Rattle.analyze_env.specs.Names.{Names}
@@ -10,8 +10,7 @@ use Rattle.analyze.proofs.analyze_function.Goals as goal
 
 pub returns-in_err-analyze_stmts-clause-is : goal.returns-in_err-analyze_stmts-clause-is
 returns-in_err-analyze_stmts-clause-is c =
-    let p = err_from_is_err_and c.from_residual.result c.from_residual.ensures.1 in
-    rw (p.1, p.2)
+    rw (exit c.from_residual.ensures.1)
     (by_body (contract_of c.args.a) (function_in c.args.f) (c.return_type-ret.ensures ∙ ap return_type c.return_type.ensures) c.body.ensures.is
     (ap (λ (e : Names). e.names) c.insert_params.ensures.is) c.in_err-analyze_stmts.ensures.is)
 

@@ -1,30 +1,24 @@
 -- `analyze::analyze_functions`: what is left of the functions gives what all of them give. Assumes nothing.
-use native.Mathlib.Omega.{arith}
-use Rattle.std.proofs.lemmas.Result.{err_from_is_err_and}
-use Rattle.contract_nodes.specs.Nodes.{contract_in, function_in}
-use Rattle.analyze.proofs.Turning.{some_there, refused, passed, all_passed, found, of_sheet, many}
+use mathlib.Core.Path.{ap, ◌∙◌}
+use Rattle.ir.proofs.Exits.{exit}
+use Rattle.contract_lookup.specs.declared.items.Functions.{Functions}
+use Rattle.analyze.proofs.Turning.{refused, passed, all_passed, of_sheet}
 use Rattle.analyze.proofs.analyze_functions.Goals as goal
-
-pub unwrap-f-requires : goal.unwrap-f-requires
-unwrap-f-requires c = some_there (contract_in c.new-functions.result.contract).functions c.loop-i.i c.get.result c.get.ensures.is (omega (arith, c.loop-i-test.true, c.len-i-end.ensures))
 
 pub returns-in_err-analyze_function : goal.returns-in_err-analyze_function
 returns-in_err-analyze_function c =
-    let p = err_from_is_err_and c.from_residual.result c.from_residual.ensures.1 in
-    rw (p.1, p.2)
-    (refused _ _ c.loop-i.i c.loop-i.invariant.is (found c.new-functions.ensures c.loop-i.i c.unwrap-f.ensures c.get.ensures.is)
-    (of_sheet c.new-structs.ensures (function_in c.unwrap-f.result) c.in_err-analyze_function.ensures.is))
+    let f = c.in-Some.ensures.steps in
+    rw (exit c.from_residual.ensures.1) (refused _ c.loop-f.invariant.is f.is (of_sheet _ c.new-structs.ensures c.in_err-analyze_function.ensures.is))
 
-pub loop-i-preserved : goal.loop-i-preserved
-loop-i-preserved c =
+pub loop-f-preserved : goal.loop-f-preserved
+loop-f-preserved c =
     let e = c.in_ok-analyze_function.ensures.empty in
+    let f = c.in-Some.ensures.steps in
     record {
       empty = (e.0, rw c.new-structs.ensures at e.1);
-      is =
-          passed _ _ c.loop-i.i c.loop-i.invariant.is (found c.new-functions.ensures c.loop-i.i c.unwrap-f.ensures c.get.ensures.is)
-          (of_sheet c.new-structs.ensures (function_in c.unwrap-f.result) c.in_ok-analyze_function.ensures.is);
+      same = ap (λ (fs : Functions). fs.contract.sheet.now) f.same ∙ c.loop-f.invariant.same;
+      is = passed _ c.loop-f.invariant.is f.is (of_sheet _ c.new-structs.ensures c.in_ok-analyze_function.ensures.is);
     }
 
 pub returns : goal.returns
-returns c =
-    all_passed _ _ c.loop-i.i c.loop-i.invariant.is (omega (arith, c.loop-i-test.false, c.len-i-end.ensures, many c.new-functions.ensures))
+returns c = all_passed _ c.loop-f.invariant.is c.in-None.ensures.steps

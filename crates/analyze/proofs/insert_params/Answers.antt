@@ -4,5 +4,5 @@ use Rattle.definitions.specs.Analyze.{known}
 use Rattle.analyze.proofs.Knowing.{one_more}
 use Rattle.analyze.proofs.insert_params.Goals as goal
 
-pub loop-i-preserved : goal.loop-i-preserved
-loop-i-preserved c = one_more c.loop-i.invariant c.param-param.result c.param-param.ensures (ap known c.from_str.ensures) c.insert.ensures
+pub loop-param-preserved : goal.loop-param-preserved
+loop-param-preserved c = one_more c.loop-param.invariant c.in-Some.ensures.steps (ap known c.from_str.ensures) c.insert.ensures

@@ -1,65 +1,37 @@
 -- The cycle of expressions meets its contracts; the depth left falls. Assumes nothing.
-use mathlib.Core.Path.{refl, ap, sym, ◌∙◌}
+use mathlib.Core.Path.{◌≡◌, refl, ap, sym, ◌∙◌}
 use native.Mathlib.Omega.{arith}
-use Rattle.std.proofs.lemmas.Result.{err_from_is_err_and}
+use Rattle.ir.proofs.Exits.{exit}
 use Rattle.definitions.specs.Result.{◌>>=◌, ◌>>◌, ok}
 use Rattle.definitions.specs.Analyze.{Ty, U64}
 use Rattle.analyze_walk.specs.Stops.{Checking, access, check_expr}
 use Rattle.analyze_state.specs.State.{contract_of}
-use Rattle.analyze_exprs.proofs.Turns.{defined, value_refused, field_refused, field_passed, no_fields, left_refused, right_refused, both_typed, call_starts, finishes, goes_on, refuses, still_fits, fits_no_more, looked_up}
-use Rattle.analyze_exprs.proofs.+exprs.Goals.{analyze_call-then-fits, analyze_call-else-fits}
+use Rattle.analyze_state.proofs.Raising.{raised}
+use Rattle.contract_nodes.specs.Nodes.{struct_in, fields_in, count_of}
+use Rattle.analyze_exprs.specs.Calls.{param_ty}
+use Rattle.analyze_exprs.proofs.Turns.{undefined, defined, value_refused, field_refused, field_passed, no_fields, left_refused, right_refused, both_typed, call_starts, finishes, goes_on, refuses}
+use Rattle.std.specs.Iterator.Adapters.{enumerate_count}
 use Rattle.analyze_exprs.proofs.+exprs.Goals as goal
 
 -- AN EXPRESSION
-pub analyze_expr-returns-in-Int : goal.analyze_expr-returns-in-Int
-unfolding check_expr
-analyze_expr-returns-in-Int t c = rw c.in-Int.ensures.is refl
-
-pub analyze_expr-returns-in-Ident : goal.analyze_expr-returns-in-Ident
-unfolding check_expr
-analyze_expr-returns-in-Ident t c = rw (c.in-Ident.ensures.is, c.ok_or.ensures.value, ← c.get.ensures) (looked_up c.get.result _)
-
-pub analyze_expr-returns-in-StorageRead : goal.analyze_expr-returns-in-StorageRead
-unfolding check_expr
-analyze_expr-returns-in-StorageRead t c = rw c.in-StorageRead.ensures.is refl
-
 pub analyze_expr-returns-in_err-analyze_expr-in-MappingRead : goal.analyze_expr-returns-in_err-analyze_expr-in-MappingRead
 unfolding check_expr
 analyze_expr-returns-in_err-analyze_expr-in-MappingRead t c =
-    let p = err_from_is_err_and c.from_residual.result c.from_residual.ensures.1 in
-    rw (p.1, p.2, c.in-MappingRead.ensures.is) (ap (λ (r : Checking Ty). r >> ok U64) c.in_err-analyze_expr-in-MappingRead.ensures)
-
-pub analyze_expr-returns-in_ok-analyze_expr-in-MappingRead : goal.analyze_expr-returns-in_ok-analyze_expr-in-MappingRead
-unfolding check_expr
-analyze_expr-returns-in_ok-analyze_expr-in-MappingRead t c =
-    rw c.in-MappingRead.ensures.is (ap (λ (r : Checking Ty). r >> ok U64) c.in_ok-analyze_expr-in-MappingRead.ensures)
+    rw (exit c.from_residual.ensures.1, c.in-MappingRead.ensures.is) (ap (λ (r : Checking Ty). r >> ok U64) c.in_err-analyze_expr-in-MappingRead.ensures)
 
 pub analyze_expr-returns-in_err-ty-in-FieldAccess : goal.analyze_expr-returns-in_err-ty-in-FieldAccess
 unfolding check_expr
 analyze_expr-returns-in_err-ty-in-FieldAccess t c =
-    let p = err_from_is_err_and c.from_residual-in_err-ty-in-FieldAccess.result c.from_residual-in_err-ty-in-FieldAccess.ensures.1 in
-    rw (p.1, p.2, c.in-FieldAccess.ensures.is)
+    rw (exit c.from_residual-in_err-ty-in-FieldAccess.ensures.1, c.in-FieldAccess.ensures.is)
     (ap (λ (r : Checking Ty). r >>= access (contract_of c.args.a.now) c.args.e.at c.in-FieldAccess.field.0) c.in_err-ty-in-FieldAccess.ensures)
-
-pub analyze_expr-returns-in_ok-ty-in-FieldAccess : goal.analyze_expr-returns-in_ok-ty-in-FieldAccess
-unfolding check_expr
-analyze_expr-returns-in_ok-ty-in-FieldAccess t c =
-    rw c.in-FieldAccess.ensures.is
-    (c.access.ensures ∙ ap (λ (r : Checking Ty). r >>= access (contract_of c.args.a.now) c.args.e.at c.in-FieldAccess.field.0) c.in_ok-ty-in-FieldAccess.ensures)
-
-pub analyze_expr-returns-in-StructLiteral : goal.analyze_expr-returns-in-StructLiteral
-unfolding check_expr
-analyze_expr-returns-in-StructLiteral t c = rw c.in-StructLiteral.ensures.is c.analyze_literal.ensures
 
 pub analyze_expr-returns-in_err-l-in-Binary : goal.analyze_expr-returns-in_err-l-in-Binary
 analyze_expr-returns-in_err-l-in-Binary t c =
-    let p = err_from_is_err_and c.from_residual-in_err-l-in-Binary.result c.from_residual-in_err-l-in-Binary.ensures.1 in
-    rw (p.1, p.2, c.in-Binary.ensures.is) (left_refused _ _ _ _ _ _ c.in_err-l-in-Binary.ensures)
+    rw (exit c.from_residual-in_err-l-in-Binary.ensures.1, c.in-Binary.ensures.is) (left_refused _ _ _ _ _ _ c.in_err-l-in-Binary.ensures)
 
 pub analyze_expr-returns-in_err-r-in-Binary : goal.analyze_expr-returns-in_err-r-in-Binary
 analyze_expr-returns-in_err-r-in-Binary t c =
-    let p = err_from_is_err_and c.from_residual-in_err-r-in-Binary.result c.from_residual-in_err-r-in-Binary.ensures.1 in
-    rw (p.1, p.2, c.in-Binary.ensures.is) (right_refused _ _ _ _ _ _ c.in_ok-l-in-Binary.ensures c.in_err-r-in-Binary.ensures)
+    rw (exit c.from_residual-in_err-r-in-Binary.ensures.1, c.in-Binary.ensures.is) (right_refused _ _ _ _ _ _ c.in_ok-l-in-Binary.ensures c.in_err-r-in-Binary.ensures)
 
 pub analyze_expr-returns-then-differs : goal.analyze_expr-returns-then-differs
 analyze_expr-returns-then-differs t c =
@@ -69,32 +41,35 @@ pub analyze_expr-returns-else-differs : goal.analyze_expr-returns-else-differs
 analyze_expr-returns-else-differs t c =
     rw c.in-Binary.ensures.is (both_typed _ _ _ _ _ _ c.in_ok-l-in-Binary.ensures c.in_ok-r-in-Binary.ensures (sym c.if-differs.false ∙ c.differs.ensures))
 
-pub analyze_expr-returns-in-Call : goal.analyze_expr-returns-in-Call
-unfolding check_expr
-analyze_expr-returns-in-Call t c = rw c.in-Call.ensures.is c.analyze_call.ensures
-
 -- A STRUCT LITERAL
+pub analyze_literal-returns-in_err-of : goal.analyze_literal-returns-in_err-of
+analyze_literal-returns-in_err-of t c =
+    rw (exit c.from_residual.ensures.1) (undefined (contract_of c.args.a.now) c.args.env.now.names c.args.at c.args.name.0 (fields_in c.args.inits) (raised struct_in _ _ c.named.ensures.is (sym c.in_err-of.was ∙ c.ok_or.ensures.value)))
+
 pub analyze_literal-loop-init-init : goal.analyze_literal-loop-init-init
-analyze_literal-loop-init-init t c = rw c.into_iter-init-iterator.ensures.into_iter_gives (record { sheet = c.requires; depth = refl; is = defined _ _ _ _ _ c.in-Some.ensures.is })
+analyze_literal-loop-init-init t c =
+    rw c.into_iter-init-iterator.ensures.into_iter_gives (record {
+      sheet = c.requires;
+      depth = refl;
+      is = defined _ _ _ _ _ (raised struct_in _ _ c.named.ensures.is (sym c.in_ok-of.was ∙ c.ok_or.ensures.value));
+    })
 
 pub analyze_literal-analyze_expr-requires : goal.analyze_literal-analyze_expr-requires
 analyze_literal-analyze_expr-requires t c =
-    let f = c.in-Some-init.ensures.steps in
+    let f = c.in-Some.ensures.steps in
     (omega (arith, c.decreases, f.depth, c.loop-init.invariant.depth), f.sheet ∙ c.loop-init.invariant.sheet)
 
 pub analyze_literal-returns-in_err-ty : goal.analyze_literal-returns-in_err-ty
 analyze_literal-returns-in_err-ty t c =
-    let p = err_from_is_err_and c.from_residual.result c.from_residual.ensures.1 in
-    rw (p.1, p.2) (value_refused _ _ _ _ _ c.in-Some-init.ensures.steps.is c.loop-init.invariant.is c.in_err-ty.ensures)
+    rw (exit c.from_residual-in_err-ty.ensures.1) (value_refused _ _ _ _ _ c.in-Some.ensures.steps.is c.loop-init.invariant.is c.in_err-ty.ensures)
 
 pub analyze_literal-returns-in_err-check_field : goal.analyze_literal-returns-in_err-check_field
 analyze_literal-returns-in_err-check_field t c =
-    let p = err_from_is_err_and c.from_residual-in_err-check_field.result c.from_residual-in_err-check_field.ensures.1 in
-    rw (p.1, p.2) (field_refused _ _ _ _ _ c.in-Some-init.ensures.steps.is c.loop-init.invariant.is c.in_ok-ty.ensures c.in_err-check_field.ensures)
+    rw (exit c.from_residual-in_err-check_field.ensures.1) (field_refused _ _ _ _ _ c.in-Some.ensures.steps.is c.loop-init.invariant.is c.in_ok-ty.ensures c.in_err-check_field.ensures)
 
 pub analyze_literal-loop-init-preserved : goal.analyze_literal-loop-init-preserved
 analyze_literal-loop-init-preserved t c =
-    let f = c.in-Some-init.ensures.steps in
+    let f = c.in-Some.ensures.steps in
     record {
       sheet = f.rest_sheet ∙ c.loop-init.invariant.sheet;
       depth = f.rest_depth ∙ c.loop-init.invariant.depth;
@@ -105,42 +80,40 @@ pub analyze_literal-returns : goal.analyze_literal-returns
 analyze_literal-returns t c = no_fields _ _ _ _ _ c.in-None.ensures.steps c.loop-init.invariant.is
 
 -- A CALL
-pub analyze_call-loop-arg-init : goal.analyze_call-loop-arg-init
-analyze_call-loop-arg-init t c =
-    rw c.into_iter-arg-iterator.ensures.into_iter_gives (record {
+pub analyze_call-loop-i-init : goal.analyze_call-loop-i-init
+analyze_call-loop-i-init t c =
+    rw (c.into_iter-i-iterator.ensures.into_iter_gives, c.enumerate-i-items.ensures.source, c.enumerate-i-items.ensures.count) (record {
       sheet = c.requires;
       depth = refl;
       few = omega arith;
+      many = omega arith;
       left = rw c.callee_named-callee.ensures (call_starts _ _ _ _ _);
     })
 
 pub analyze_call-analyze_expr-requires : goal.analyze_call-analyze_expr-requires
 analyze_call-analyze_expr-requires t c =
-    let f = c.in-Some.ensures.steps in
-    (omega (arith, c.decreases, f.depth, c.loop-arg.invariant.depth), f.sheet ∙ c.loop-arg.invariant.sheet)
+    let f = c.in-Some.ensures.steps.0 in
+    (omega (arith, c.decreases, f.depth, c.loop-i.invariant.depth), f.sheet ∙ c.loop-i.invariant.sheet)
 
 pub analyze_call-returns-in_err-ty : goal.analyze_call-returns-in_err-ty
 analyze_call-returns-in_err-ty t c =
-    let p = err_from_is_err_and c.from_residual.result c.from_residual.ensures.1 in
-    rw (p.1, p.2) (refuses c.loop-arg.invariant.left c.in-Some.ensures.steps.is c.in_err-ty.ensures)
+    rw (exit c.from_residual.ensures.1) (refuses c.loop-i.invariant.left c.in-Some.ensures.steps.0.is c.in_err-ty.ensures)
 
-pub analyze_call-overflow_add-n : goal.analyze_call-overflow_add-n
-analyze_call-overflow_add-n t c =
-    let new = c.next.new.self in
-    omega (arith, c.in-Some.ensures.steps.less, c.in-Some.ensures.steps.within, c.loop-arg.invariant.few, new.ready.1, new.contract.passed.short)
-
-pub analyze_call-loop-arg-preserved : goal.analyze_call-loop-arg-preserved
-analyze_call-loop-arg-preserved t c = record {
-  sheet = c.in-Some.ensures.steps.rest_sheet ∙ c.loop-arg.invariant.sheet;
-  depth = c.in-Some.ensures.steps.rest_depth ∙ c.loop-arg.invariant.depth;
-  few = omega (arith, c.in-Some.ensures.steps.less, c.loop-arg.invariant.few);
-  left =
-      goes_on c.loop-arg.invariant.left c.in-Some.ensures.steps.is c.in_ok-ty.ensures
-      (elim c.if-fits.branch [
-        | analyze_call-then-fits w ↦ still_fits _ w.if-fits.true w.fits-is w.differs.ensures w.param_ty.ensures
-        | analyze_call-else-fits w ↦ fits_no_more _ w.if-fits.false w.fits-is
-      ]);
-}
+pub analyze_call-loop-i-preserved : goal.analyze_call-loop-i-preserved
+analyze_call-loop-i-preserved t c =
+    let i = c.loop-i.invariant in
+    let s = c.in-Some.ensures.steps in
+    let f = s.0 in
+    record {
+      sheet = f.rest_sheet ∙ i.sheet;
+      depth = f.rest_depth ∙ i.depth;
+      few = omega (arith, f.less, i.few, s.2);
+      many = omega (arith, ap count_of f.is, i.many, s.2);
+      left = rw s.2 (goes_on i.left f.is c.in_ok-ty.ensures c.differs.ensures (c.param_ty.ensures ∙ ap (param_ty _) s.1));
+    }
 
 pub analyze_call-returns : goal.analyze_call-returns
-analyze_call-returns t c = c.finish_call.ensures ∙ finishes c.loop-arg.invariant.left c.in-None.ensures.steps
+analyze_call-returns t c =
+    let i = c.loop-i.invariant in
+    let all : c.len.result ≡ enumerate_count c.loop-i.i-iterator = omega (arith, i.many, c.len.ensures, ap count_of c.in-None.ensures.steps.0) in
+    c.finish_call.ensures ∙ rw all (finishes i.left c.in-None.ensures.steps.0)

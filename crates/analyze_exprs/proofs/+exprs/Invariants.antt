@@ -5,12 +5,13 @@ use Prim.Native.Nat.{◌+◌, ◌*◌, ◌≤◌}
 use Rattle.definitions.specs.Result.{◌>>◌, ok}
 use Rattle.definitions.specs.Ir.{IrType}
 use Rattle.definitions.specs.Analyze.{known}
-use Rattle.contract_nodes.specs.Nodes.{struct_in, fields_in, exprs_in}
+use Rattle.contract_nodes.specs.Nodes.{struct_in, fields_in, exprs_in, count_of}
 use Rattle.analyze_walk.specs.Stops.{check_fields}
 use Rattle.analyze_state.specs.State.{contract_of, OfSheet}
 use Rattle.analyze_exprs.specs.Typed.{check_literal, check_call}
 use Rattle.analyze_exprs.specs.Calls.{callee_in}
 use Rattle.analyze_exprs.proofs.Turns.{Going}
+use Rattle.std.specs.Iterator.Adapters.{enumerate_source, enumerate_count}
 use Rattle.analyze_exprs.proofs.+exprs.Given as goal
 
 abbrev pub decreases-analyze_expr : goal.decreases-analyze_expr
@@ -32,10 +33,14 @@ invariant-analyze_literal-loop-init l = record {
 }
 
 -- the arguments that are left, after the types so far, give what the whole call gives; each takes a place
-abbrev pub invariant-analyze_call-loop-arg : goal.invariant-analyze_call-loop-arg
-invariant-analyze_call-loop-arg l = record {
-  sheet : OfSheet l.a l.arg-iterator.contract;
-  depth : l.arg-iterator.depth ≡ l.fn.args.depth;
-  few : l.n ≤ l.arg-iterator.at;
-  left : Going (contract_of l.a) l.env.names l.at (callee_in l.callee) (check_call (contract_of l.a) l.env.names l.at l.fn.name.0 (exprs_in l.fn.args)) (exprs_in l.arg-iterator) l.n l.fits;
-}
+abbrev pub invariant-analyze_call-loop-i : goal.invariant-analyze_call-loop-i
+invariant-analyze_call-loop-i l =
+    let rest = enumerate_source l.i-iterator in
+    let n = enumerate_count l.i-iterator in
+    record {
+      sheet : OfSheet l.a rest.contract;
+      depth : rest.depth ≡ l.fn.args.depth;
+      few : n ≤ rest.at;
+      many : n + count_of (exprs_in rest) ≡ count_of (exprs_in l.fn.args);
+      left : Going (contract_of l.a) l.env.names l.at (callee_in l.callee) (check_call (contract_of l.a) l.env.names l.at l.fn.name.0 (exprs_in l.fn.args)) (exprs_in rest) n l.fits;
+    }

@@ -1,14 +1,13 @@
 -- `analyze_simple::analyze_return`: the value, if there is one. Assumes nothing.
 use mathlib.Core.Path.{sym, ◌∙◌}
-use Rattle.std.proofs.lemmas.Result.{err_from_is_err_and}
+use Rattle.ir.proofs.Exits.{exit}
 use Rattle.analyze_simple.proofs.Steps.{of_some, of_none, return_refused, return_typed}
 use Rattle.analyze_simple.proofs.analyze_return.Goals.{in-Some+in_ok-ty-in-Some, in-None}
 use Rattle.analyze_simple.proofs.analyze_return.Goals as goal
 
 pub returns-in_err-ty-in-Some : goal.returns-in_err-ty-in-Some
 returns-in_err-ty-in-Some c =
-    let p = err_from_is_err_and c.from_residual.result c.from_residual.ensures.1 in
-    rw (p.1, p.2) (return_refused _ _ _ _ _ (of_some _ _ c.in-Some.is c.in_err-ty-in-Some.ensures))
+    rw (exit c.from_residual.ensures.1) (return_refused _ _ _ _ _ (of_some _ _ c.in-Some.is c.in_err-ty-in-Some.ensures))
 
 pub returns-then-differs : goal.returns-then-differs
 returns-then-differs c =

@@ -1,11 +1,11 @@
 -- The cycle of statements meets its contracts; the depth left falls. Assumes nothing.
 use mathlib.Core.Path.{ap, ◌∙◌}
 use native.Mathlib.Omega.{arith}
-use Rattle.std.proofs.lemmas.Result.{err_from_is_err_and}
+use Rattle.ir.proofs.Exits.{exit}
 use Rattle.definitions.specs.Result.{ok}
 use Rattle.definitions.specs.Analyze.{Env}
 use Rattle.definitions.specs.Grammar.{Class}
-use Rattle.analyze_walk.specs.Stops.{check_stmt, check_stmts}
+use Rattle.analyze_walk.specs.Stops.{check_stmts}
 use Rattle.contract_nodes.specs.Nodes.{stmts_in}
 use Rattle.analyze_env.specs.Names.{Names}
 use Rattle.analyze_state.specs.State.{contract_of, ret_of}
@@ -16,8 +16,7 @@ use Rattle.analyze_stmts.proofs.+stmts.Goals as goal
 -- LET
 pub analyze_stmt-returns-in_err-ty-in-Let-clause-is : goal.analyze_stmt-returns-in_err-ty-in-Let-clause-is
 analyze_stmt-returns-in_err-ty-in-Let-clause-is t c =
-    let p = err_from_is_err_and c.from_residual.result c.from_residual.ensures.1 in
-    rw (p.1, p.2) (let_is _ _ _ c.in-Let.ensures.is c.in_err-ty-in-Let.ensures)
+    rw (exit c.from_residual.ensures.1) (let_is _ _ _ c.in-Let.ensures.is c.in_err-ty-in-Let.ensures)
 
 pub analyze_stmt-returns-in_ok-ty-in-Let-clause-is : goal.analyze_stmt-returns-in_ok-ty-in-Let-clause-is
 analyze_stmt-returns-in_ok-ty-in-Let-clause-is t c =
@@ -26,39 +25,14 @@ analyze_stmt-returns-in_ok-ty-in-Let-clause-is t c =
 pub analyze_stmt-returns-in_ok-ty-in-Let-clause-grown : goal.analyze_stmt-returns-in_ok-ty-in-Let-clause-grown
 analyze_stmt-returns-in_ok-ty-in-Let-clause-grown t c = one_more c.args.t.at c.insert.ensures c.requires.room.1 c.in-Let.ensures.parts.1
 
--- WHAT DECLARES NO NAME
-pub analyze_stmt-returns-in-Constrain-clause-is : goal.analyze_stmt-returns-in-Constrain-clause-is
-unfolding check_stmt
-analyze_stmt-returns-in-Constrain-clause-is t c = rw c.in-Constrain.ensures.is c.analyze_value.ensures
-
-pub analyze_stmt-returns-in-StorageWrite-clause-is : goal.analyze_stmt-returns-in-StorageWrite-clause-is
-unfolding check_stmt
-analyze_stmt-returns-in-StorageWrite-clause-is t c = rw c.in-StorageWrite.ensures.is c.analyze_value-in-StorageWrite.ensures
-
-pub analyze_stmt-returns-in-MappingWrite-clause-is : goal.analyze_stmt-returns-in-MappingWrite-clause-is
-unfolding check_stmt
-analyze_stmt-returns-in-MappingWrite-clause-is t c = rw c.in-MappingWrite.ensures.is c.analyze_pair.ensures
-
-pub analyze_stmt-returns-in-Emit-clause-is : goal.analyze_stmt-returns-in-Emit-clause-is
-unfolding check_stmt
-analyze_stmt-returns-in-Emit-clause-is t c = rw c.in-Emit.ensures.is c.analyze_args.ensures
-
-pub analyze_stmt-returns-in-Expr-clause-is : goal.analyze_stmt-returns-in-Expr-clause-is
-unfolding check_stmt
-analyze_stmt-returns-in-Expr-clause-is t c = rw c.in-Expr.ensures.is c.analyze_value-in-Expr.ensures
-
 -- IF
 pub analyze_stmt-returns-in_err-analyze_expr-in-If-clause-is : goal.analyze_stmt-returns-in_err-analyze_expr-in-If-clause-is
 analyze_stmt-returns-in_err-analyze_expr-in-If-clause-is t c =
-    let r = c.from_residual-in_err-analyze_expr-in-If in
-    let p = err_from_is_err_and r.result r.ensures.1 in
-    rw (p.1, p.2) (if_refused _ _ _ c.in-If.ensures.is.is c.in_err-analyze_expr-in-If.ensures)
+    rw (exit c.from_residual-in_err-analyze_expr-in-If.ensures.1) (if_refused _ _ _ c.in-If.ensures.is.is c.in_err-analyze_expr-in-If.ensures)
 
 pub analyze_stmt-returns-in_err-analyze_stmts-in-If-clause-is : goal.analyze_stmt-returns-in_err-analyze_stmts-in-If-clause-is
 analyze_stmt-returns-in_err-analyze_stmts-in-If-clause-is t c =
-    let r = c.from_residual-in_err-analyze_stmts-in-If in
-    let p = err_from_is_err_and r.result r.ensures.1 in
-    rw (p.1, p.2) (then_refused _ _ _ c.in-If.ensures.is.is c.in_ok-analyze_expr-in-If.ensures c.in_err-analyze_stmts-in-If.ensures.is)
+    rw (exit c.from_residual-in_err-analyze_stmts-in-If.ensures.1) (then_refused _ _ _ c.in-If.ensures.is.is c.in_ok-analyze_expr-in-If.ensures c.in_err-analyze_stmts-in-If.ensures.is)
 
 pub analyze_stmt-returns-in_ok-analyze_stmts-in-If-clause-is : goal.analyze_stmt-returns-in_ok-analyze_stmts-in-If-clause-is
 analyze_stmt-returns-in_ok-analyze_stmts-in-If-clause-is t c =
@@ -72,9 +46,7 @@ analyze_stmt-returns-in_ok-analyze_stmts-in-If-clause-grown t c =
 -- WHILE
 pub analyze_stmt-returns-in_err-analyze_expr-in-While-clause-is : goal.analyze_stmt-returns-in_err-analyze_expr-in-While-clause-is
 analyze_stmt-returns-in_err-analyze_expr-in-While-clause-is t c =
-    let r = c.from_residual-in_err-analyze_expr-in-While in
-    let p = err_from_is_err_and r.result r.ensures.1 in
-    rw (p.1, p.2) (while_refused _ _ _ c.in-While.ensures.is.1 c.in_err-analyze_expr-in-While.ensures)
+    rw (exit c.from_residual-in_err-analyze_expr-in-While.ensures.1) (while_refused _ _ _ c.in-While.ensures.is.1 c.in_err-analyze_expr-in-While.ensures)
 
 pub analyze_stmt-returns-in_ok-analyze_expr-in-While-clause-is : goal.analyze_stmt-returns-in_ok-analyze_expr-in-While-clause-is
 analyze_stmt-returns-in_ok-analyze_expr-in-While-clause-is t c =
@@ -83,15 +55,11 @@ analyze_stmt-returns-in_ok-analyze_expr-in-While-clause-is t c =
 -- FOR
 pub analyze_stmt-returns-in_err-analyze_pair-in-For-clause-is : goal.analyze_stmt-returns-in_err-analyze_pair-in-For-clause-is
 analyze_stmt-returns-in_err-analyze_pair-in-For-clause-is t c =
-    let r = c.from_residual-in_err-analyze_pair-in-For in
-    let p = err_from_is_err_and r.result r.ensures.1 in
-    rw (p.1, p.2) (for_refused _ _ _ c.in-For.ensures.is.1 c.in_err-analyze_pair-in-For.ensures)
+    rw (exit c.from_residual-in_err-analyze_pair-in-For.ensures.1) (for_refused _ _ _ c.in-For.ensures.is.1 c.in_err-analyze_pair-in-For.ensures)
 
 pub analyze_stmt-returns-in_err-analyze_stmts-in-For-clause-is : goal.analyze_stmt-returns-in_err-analyze_stmts-in-For-clause-is
 analyze_stmt-returns-in_err-analyze_stmts-in-For-clause-is t c =
-    let r = c.from_residual-in_err-analyze_stmts-in-For in
-    let p = err_from_is_err_and r.result r.ensures.1 in
-    rw (p.1, p.2)
+    rw (exit c.from_residual-in_err-analyze_stmts-in-For.ensures.1)
     (body_refused _ _ _ c.in-For.ensures.is.1 c.in_ok-analyze_pair-in-For.ensures
     (c.in_err-analyze_stmts-in-For.ensures.is ∙ ap (λ (e : Names). check_stmts (contract_of c.args.a.now) (ret_of c.args.a.now) (stmts_in c.in-For.body) e.names) c.insert-in-For.ensures))
 
@@ -121,8 +89,7 @@ analyze_stmts-loop-t-preserved t c =
 
 pub analyze_stmts-returns-in_err-analyze_stmt-clause-is : goal.analyze_stmts-returns-in_err-analyze_stmt-clause-is
 analyze_stmts-returns-in_err-analyze_stmt-clause-is t c =
-    let p = err_from_is_err_and c.from_residual.result c.from_residual.ensures.1 in
-    rw (p.1, p.2) (first_is _ _ _ c.in-Some.ensures.steps.is c.in_err-analyze_stmt.ensures.is ∙ c.loop-t.invariant.is)
+    rw (exit c.from_residual.ensures.1) (first_is _ _ _ c.in-Some.ensures.steps.is c.in_err-analyze_stmt.ensures.is ∙ c.loop-t.invariant.is)
 
 pub analyze_stmts-returns-clause-is : goal.analyze_stmts-returns-clause-is
 analyze_stmts-returns-clause-is t c = none_is _ _ _ c.in-None.ensures.steps.0 ∙ c.loop-t.invariant.is

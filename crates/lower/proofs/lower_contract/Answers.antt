@@ -1,24 +1,21 @@
 -- `lower_contract`: the functions, the names and the head. Assumes nothing.
-use Rattle.std.proofs.lemmas.Result.{err_from_is_err_and}
+use Rattle.ir.proofs.Exits.{exit}
 use Rattle.lower.proofs.Answering.{refused, no_room, names_lost, finished}
 use Rattle.lower.proofs.lower_contract.Goals as goal
 
 pub returns-in_err-place_functions : goal.returns-in_err-place_functions
 returns-in_err-place_functions c =
-    let p = err_from_is_err_and c.from_residual.result c.from_residual.ensures.1 in
-    rw (p.1, p.2) (refused _ _ _ _ (rw c.new-functions.ensures at c.in_err-place_functions.ensures))
+    rw (exit c.from_residual.ensures.1) (refused _ _ _ _ (rw c.new-functions.ensures at c.in_err-place_functions.ensures))
 
 pub returns-in_err-to : goal.returns-in_err-to
 returns-in_err-to c =
-    let p = err_from_is_err_and c.from_residual-in_err-to.result c.from_residual-in_err-to.ensures.1 in
     let to = c.in_err-to.ensures in
-    rw (p.1, p.2, to.value, to.ok_part) (no_room _ (rw (c.new-functions.ensures, to.ok_part) at c.in_ok-place_functions.ensures))
+    rw (exit c.from_residual-in_err-to.ensures.1, to.value, to.ok_part) (no_room _ (rw (c.new-functions.ensures, to.ok_part) at c.in_ok-place_functions.ensures))
 
 pub returns-in_err-end : goal.returns-in_err-end
 returns-in_err-end c =
-    let p = err_from_is_err_and c.from_residual-in_err-end.result c.from_residual-in_err-end.ensures.1 in
     let end = c.in_err-end.ensures in
-    rw (p.1, p.2, end.value, end.ok_part)
+    rw (exit c.from_residual-in_err-end.ensures.1, end.value, end.ok_part)
     (names_lost _ (rw (c.new-functions.ensures, c.in_ok-to.ensures.ok_part) at c.in_ok-place_functions.ensures) (rw (c.new-functions.ensures, end.ok_part) at c.lay_names.ensures))
 
 pub returns : goal.returns

@@ -1,14 +1,13 @@
 -- `place_function`: what the walk came to is what the definitions say, and the record is laid down or does not fit. Assumes nothing.
 use mathlib.Core.Path.{refl}
-use Rattle.std.proofs.lemmas.Result.{err_from_is_err_and}
+use Rattle.ir.proofs.Exits.{exit}
 use Rattle.lower.proofs.Placing.{not_walked, within, put, not_put}
 use Rattle.lower.proofs.place_function.Goals as goal
 
 pub returns-in_err-lower_function : goal.returns-in_err-lower_function
 returns-in_err-lower_function c =
-    let p = err_from_is_err_and c.from_residual.result c.from_residual.ensures.1 in
     let w = c.in_err-lower_function.ensures in
-    rw (p.1, p.2) (not_walked c.args.f.contract.sheet.now c.args.f.at _ _ _ c.args.f.ready w.sizes w.is, refl)
+    rw (exit c.from_residual.ensures.1) (not_walked c.args.f.contract.sheet.now c.args.f.at _ _ _ c.args.f.ready w.sizes w.is, refl)
 
 pub returns-in_default : goal.returns-in_default
 returns-in_default c =

@@ -1,5 +1,5 @@
 -- `lower_control::for_blocks`: the blocks, the jump, the header and the body. Assumes nothing.
-use Rattle.std.proofs.lemmas.Result.{err_from_is_err_and}
+use Rattle.ir.proofs.Exits.{exit}
 use Rattle.lower_flow.proofs.Steps.{same_blocks}
 use Rattle.lower_control.proofs.Steps.{among, still_there}
 use Rattle.lower_control.proofs.Fors.{for_full, body_there, for_entered}
@@ -7,8 +7,7 @@ use Rattle.lower_control.proofs.for_blocks.Goals as goal
 
 pub returns-in_err-blocks-clause-is : goal.returns-in_err-blocks-clause-is
 returns-in_err-blocks-clause-is c =
-    let p = err_from_is_err_and c.from_residual.result c.from_residual.ensures.1 in
-    rw (p.1, p.2) (for_full _ c.args.ctx.now c.in_err-blocks.ensures.is)
+    rw (exit c.from_residual.ensures.1) (for_full _ c.args.ctx.now c.in_err-blocks.ensures.is)
 
 pub switch_to-requires : goal.switch_to-requires
 switch_to-requires c = still_there (among c.in_ok-blocks.ensures.is).1 (same_blocks _ _ c.jump.ensures)

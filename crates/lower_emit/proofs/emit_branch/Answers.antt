@@ -5,4 +5,5 @@ use Rattle.lower_emit.proofs.Written.{closes}
 use Rattle.lower_emit.proofs.emit_branch.Goals as goal
 
 pub returns : goal.returns
-returns c = let a = c.args in c.append.ensures ∙ closes (Terminator.Branch a.condition.0 a.then_block.0 a.else_block.0) a.ctx.now
+returns c =
+    let a = c.args in (rw (c.id-yes.ensures, c.id-no.ensures) at c.append_terminator.ensures) ∙ closes (Terminator.Branch a.condition.0 a.then_block.0 a.else_block.0) a.ctx.now

@@ -9,6 +9,5 @@ returns c =
     let a = c.args in
     let id = c.next_value-id.ensures in
     let given = not_void (as_type a.ty) c.requires in
-    let code = c.type_part.ensures in
-    pushes (Instruction.Call a.function.0 a.args.now (as_type a.ty)) given id.number id.counted
-    (rw given (rw (code.0, code.1, c.as_slice.ensures.is) at c.append_list.ensures))
+    pushes (Instruction.Call a.function.0 a.args.now (as_type a.ty)) given id.number
+    (rw given (rw (c.id-function.ensures, c.type_part.ensures, c.as_slice.ensures.is, id.counted) at c.append_list.ensures))

@@ -7,4 +7,4 @@ use Rattle.lower_emit.proofs.emit_call_void.Goals as goal
 pub returns : goal.returns
 returns c =
     let a = c.args in
-    (rw c.as_slice.ensures.is at c.append_list.ensures) ∙ appends (Instruction.Call a.function.0 a.args.now IrType.Void) a.ctx.now refl
+    (rw (c.id-function.ensures, c.as_slice.ensures.is) at c.append_list.ensures) ∙ appends (Instruction.Call a.function.0 a.args.now IrType.Void) a.ctx.now refl

@@ -7,5 +7,5 @@ use Rattle.lower_emit.proofs.emit_const.Goals as goal
 pub returns : goal.returns
 returns c =
     let a = c.args in
-    let id = c.next_value-id.ensures in
-    pushes (Instruction.Const IrType.U64 a.value) refl id.number id.counted c.append.ensures
+    let p = c.push_instr.ensures in
+    pushes (Instruction.Const IrType.U64 a.value) refl p.number (rw (c.eight.ensures) at p.is)

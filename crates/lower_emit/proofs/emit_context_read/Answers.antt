@@ -9,5 +9,5 @@ use Rattle.lower_emit.proofs.emit_context_read.Goals as goal
 pub returns : goal.returns
 returns c =
     let a = c.args in
-    let id = c.next_value-id.ensures in
-    pushes (Instruction.ContextRead (context_number a.context)) refl id.number id.counted (rw (context_is a.context) at c.append.ensures)
+    let p = c.push_instr.ensures in
+    pushes (Instruction.ContextRead (context_number a.context)) refl p.number (rw (c.id.ensures, context_is a.context) at p.is)

@@ -7,4 +7,4 @@ use Rattle.lower_emit.proofs.emit_event.Goals as goal
 pub returns : goal.returns
 returns c =
     let a = c.args in
-    (rw c.as_slice.ensures.is at c.append_list.ensures) ∙ appends (Instruction.Emit a.event.0 a.args.now) a.ctx.now refl
+    (rw (c.id.ensures, c.as_slice.ensures.is) at c.append_list.ensures) ∙ appends (Instruction.Emit a.event.0 a.args.now) a.ctx.now refl

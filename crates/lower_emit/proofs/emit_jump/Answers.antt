@@ -5,4 +5,5 @@ use Rattle.lower_emit.proofs.Written.{closes}
 use Rattle.lower_emit.proofs.emit_jump.Goals as goal
 
 pub returns : goal.returns
-returns c = let a = c.args in c.put_terminator.ensures ∙ closes (Terminator.Jump a.target.0) a.ctx.now
+returns c =
+    let a = c.args in c.append_terminator.ensures ∙ closes (Terminator.Jump a.target.0) a.ctx.now

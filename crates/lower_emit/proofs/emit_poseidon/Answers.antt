@@ -7,5 +7,5 @@ use Rattle.lower_emit.proofs.emit_poseidon.Goals as goal
 pub returns : goal.returns
 returns c =
     let a = c.args in
-    let id = c.next_value-id.ensures in
-    pushes (Instruction.Poseidon a.lhs.0 a.rhs.0) refl id.number id.counted c.append.ensures
+    let p = c.push_instr.ensures in
+    pushes (Instruction.Poseidon a.lhs.0 a.rhs.0) refl p.number (rw (c.id.ensures, c.id-2.ensures) at p.is)

@@ -8,5 +8,5 @@ use Rattle.lower_emit.proofs.emit_read_local.Goals as goal
 pub returns : goal.returns
 returns c =
     let a = c.args in
-    let id = c.next_value-id.ensures in
-    pushes (Instruction.ReadLocal a.local.0 (as_type a.ty)) refl id.number id.counted (rw (c.type_part.ensures.0, c.type_part.ensures.1) at c.append.ensures)
+    let p = c.push_instr.ensures in
+    pushes (Instruction.ReadLocal a.local.0 (as_type a.ty)) refl p.number (rw (c.id.ensures, c.type_part.ensures) at p.is)

@@ -7,5 +7,5 @@ use Rattle.lower_emit.proofs.emit_state_read.Goals as goal
 pub returns : goal.returns
 returns c =
     let a = c.args in
-    let id = c.next_value-id.ensures in
-    pushes (Instruction.StateRead IrType.U64 a.slot) refl id.number id.counted c.append.ensures
+    let p = c.push_instr.ensures in
+    pushes (Instruction.StateRead IrType.U64 a.slot) refl p.number (rw (c.four.ensures) at p.is)

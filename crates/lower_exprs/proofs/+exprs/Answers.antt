@@ -1,6 +1,6 @@
 -- The cycle of expressions meets its contracts. Assumes nothing.
 use mathlib.Core.Path.{refl, ap, ◌∙◌}
-use Rattle.std.proofs.lemmas.Result.{err_from_is_err_and}
+use Rattle.ir.proofs.Exits.{exit}
 use Rattle.definitions.specs.Result.{◌>>=◌}
 use Rattle.definitions.specs.Lower.{Lowering}
 use Rattle.lower_walk.specs.Exprs.{Walked, need_value, walk_expr_value}
@@ -12,14 +12,12 @@ use Rattle.lower_exprs.proofs.+exprs.Goals as goal
 -- AN EXPRESSION
 pub lower_expr-returns-in_err-base-in-FieldAccess-clause-is : goal.lower_expr-returns-in_err-base-in-FieldAccess-clause-is
 lower_expr-returns-in_err-base-in-FieldAccess-clause-is t c =
-    let p = err_from_is_err_and c.from_residual-in_err-base-in-FieldAccess.result c.from_residual-in_err-base-in-FieldAccess.ensures.1 in
-    rw (p.1, p.2, c.in-FieldAccess.ensures.is)
+    rw (exit c.from_residual-in_err-base-in-FieldAccess.ensures.1, c.in-FieldAccess.ensures.is)
     (base_refused _ _ _ _ _ _ (value_on_sheet _ _ _ c.in-FieldAccess.ensures.parts.0 c.in_err-base-in-FieldAccess.ensures.is))
 
 pub lower_expr-returns-in_err-lower_field-in-FieldAccess-clause-is : goal.lower_expr-returns-in_err-lower_field-in-FieldAccess-clause-is
 lower_expr-returns-in_err-lower_field-in-FieldAccess-clause-is t c =
-    let p = err_from_is_err_and c.from_residual-in_err-lower_field-in-FieldAccess.result c.from_residual-in_err-lower_field-in-FieldAccess.ensures.1 in
-    rw (p.1, p.2, c.in-FieldAccess.ensures.is)
+    rw (exit c.from_residual-in_err-lower_field-in-FieldAccess.ensures.1, c.in-FieldAccess.ensures.is)
     (field_walks _ _ _ _ _ _ (value_on_sheet _ _ _ c.in-FieldAccess.ensures.parts.0 c.in_ok-base-in-FieldAccess.ensures.is) c.in_err-lower_field-in-FieldAccess.ensures.is)
 
 pub lower_expr-returns-in_ok-lower_field-in-FieldAccess-clause-is : goal.lower_expr-returns-in_ok-lower_field-in-FieldAccess-clause-is
@@ -29,14 +27,12 @@ lower_expr-returns-in_ok-lower_field-in-FieldAccess-clause-is t c =
 
 pub lower_expr-returns-in_err-lhs-in-Binary-clause-is : goal.lower_expr-returns-in_err-lhs-in-Binary-clause-is
 lower_expr-returns-in_err-lhs-in-Binary-clause-is t c =
-    let p = err_from_is_err_and c.from_residual-in_err-lhs-in-Binary.result c.from_residual-in_err-lhs-in-Binary.ensures.1 in
-    rw (p.1, p.2, c.in-Binary.ensures.is)
+    rw (exit c.from_residual-in_err-lhs-in-Binary.ensures.1, c.in-Binary.ensures.is)
     (left_refused _ _ _ _ _ _ _ (value_on_sheet _ _ _ c.in-Binary.ensures.parts.0.0 c.in_err-lhs-in-Binary.ensures.is))
 
 pub lower_expr-returns-in_err-rhs-in-Binary-clause-is : goal.lower_expr-returns-in_err-rhs-in-Binary-clause-is
 lower_expr-returns-in_err-rhs-in-Binary-clause-is t c =
-    let p = err_from_is_err_and c.from_residual-in_err-rhs-in-Binary.result c.from_residual-in_err-rhs-in-Binary.ensures.1 in
-    rw (p.1, p.2, c.in-Binary.ensures.is)
+    rw (exit c.from_residual-in_err-rhs-in-Binary.ensures.1, c.in-Binary.ensures.is)
     (right_refused _ _ _ _ _ _ _ (value_on_sheet _ _ _ c.in-Binary.ensures.parts.0.0 c.in_ok-lhs-in-Binary.ensures.is) (value_on_sheet _ _ _ c.in-Binary.ensures.parts.1.0 c.in_err-rhs-in-Binary.ensures.is))
 
 pub lower_expr-returns-in_ok-rhs-in-Binary-clause-is : goal.lower_expr-returns-in_ok-rhs-in-Binary-clause-is
@@ -54,8 +50,7 @@ lower_expr_value-returns-clause-is t c =
 -- A CALL
 pub lower_call-returns-in_err-callee-clause-is : goal.lower_call-returns-in_err-callee-clause-is
 lower_call-returns-in_err-callee-clause-is t c =
-    let p = err_from_is_err_and c.from_residual.result c.from_residual.ensures.1 in
-    rw (p.1, p.2) (not_called _ _ _ _ _ c.len.ensures c.in_err-callee.ensures)
+    rw (exit c.from_residual.ensures.1) (not_called _ _ _ _ _ c.len.ensures c.in_err-callee.ensures)
 
 pub lower_call-returns-in-Context-clause-is : goal.lower_call-returns-in-Context-clause-is
 lower_call-returns-in-Context-clause-is t c = context_read _ _ _ _ c.args.ctx.now.log c.len.ensures c.in_ok-callee.callee c.new-values.result c.in_ok-callee.ensures c.in-Context.is c.finish_call.ensures.is
@@ -70,11 +65,10 @@ lower_call-loop-arg-init t c =
 
 pub lower_call-returns-in_err-value : goal.lower_call-returns-in_err-value
 lower_call-returns-in_err-value t c =
-    let p = err_from_is_err_and c.from_residual-in_err-value.result c.from_residual-in_err-value.ensures.1 in
     let f = c.in-Some.ensures.steps in
     let i = c.loop-arg.invariant in
     record {
-      is = rw (p.1, p.2) (refuses i.left f.is (value_on_sheet _ _ _ (f.sheet ∙ i.sheet) c.in_err-value.ensures.is));
+      is = rw (exit c.from_residual-in_err-value.ensures.1) (refuses i.left f.is (value_on_sheet _ _ _ (f.sheet ∙ i.sheet) c.in_err-value.ensures.is));
       log_alone = then_alone c.args.ctx.now _ _ i.left.same c.in_err-value.ensures.log_alone;
     }
 

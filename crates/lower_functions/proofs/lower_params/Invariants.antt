@@ -5,5 +5,5 @@ use Rattle.lower_walk.specs.Layout.{walk_params}
 use Rattle.lower_functions.proofs.ParamSteps.{Going}
 use Rattle.lower_functions.proofs.lower_params.Given as goal
 
-abbrev pub invariant-loop-i : goal.invariant-loop-i
-invariant-loop-i l = Going (function_in l.f).params (walk_params (function_in l.f).params [] l.fn.ctx) l.ctx l.scopes l.i
+abbrev pub invariant-loop-param : goal.invariant-loop-param
+invariant-loop-param l = Going (walk_params (function_in l.fn.f).params [] l.fn.ctx) l.fn.ctx l.ctx l.scopes l.param-iterator

@@ -3,7 +3,7 @@ use mathlib.Core.Path.{refl}
 use native.Mathlib.Omega.{arith}
 use lib.ListN.{length}
 use Rattle.std.proofs.lemmas.List.{take_all}
-use Rattle.lower_layout.proofs.Storing.{◌then◌, wrote, put_as}
+use Rattle.lower_layout.proofs.Storing.{◌then◌, wrote, wrote_head, put_as}
 use Rattle.lower_layout.proofs.Records.{block_is}
 use Rattle.lower_layout.proofs.lay_block.Goals as goal
 
@@ -13,7 +13,6 @@ returns c =
     let x = a.records.now in
     let e = take_all (length x) x (omega arith) in
     put_as (block_is a.block.0 x)
-    (wrote 4 _ c.write.ensures refl
-    then wrote 2 53 (rw c.from.ensures at c.write-2.ensures) (omega arith)
-    then wrote 2 a.block.0 c.write-3.ensures (omega arith)
+    (wrote_head _ 53 c.write_head.ensures refl
+    then wrote 2 a.block.0 c.write.ensures (omega arith)
     then record { is = rw e at c.copy.ensures; past = omega arith })

@@ -26,4 +26,4 @@ returns c =
     let a = c.args.ctx.now in
     let l = c.loop-k in
     let e : a.next_block ≡ l.k = omega arith in
-    rw (blocks_run a, e) l.invariant
+    rw (blocks_run a, e) l.invariant.is

@@ -1,37 +1,23 @@
 -- `lower_layout::lay_function`: the start and the blocks, if there is room for both. Assumes nothing.
-use mathlib.Core.Path.{sym, ◌∙◌}
-use native.Mathlib.Omega.{arith}
-use borrow.Author.Tests.{leb-true, leb-false}
-use lib.ListN.{length}
 use Rattle.contract_nodes.specs.Nodes.{function_in}
-use Rattle.lower_layout.proofs.Storing.{laid_none, laid_put, room_least}
-use Rattle.lower_layout.proofs.Records.{sized, blocks_room, whole_length, whole_put}
+use Rattle.lower_layout.proofs.Storing.{behind_in, laid_none, laid_put}
+use Rattle.lower_layout.proofs.Records.{kept, blocks_room, whole_length, whole_put}
 use Rattle.lower_layout.proofs.lay_function.Goals as goal
 
-pub returns-then-not-fits : goal.returns-then-not-fits
-returns-then-not-fits c =
+pub returns-in_err-end : goal.returns-in_err-end
+returns-in_err-end c =
     let a = c.args in
-    let f = function_in a.f in
-    let e = sized f a.ctx.now c.locals-locals.result.now c.param_count.ensures.count c.locals-locals.ensures.is c.blocks_size.ensures.is in
-    let z = whole_length a.id.0 f a.ctx.now _ e in
-    let q = leb-false _ _ (sym c.fits.ensures ∙ c.if-not-fits.true) in
-    (λ h. laid_none _ _ _ (omega (arith, z, q)), λ h. absurd (omega (arith, h, leb-true _ _ (sym c.is_whole.ensures ∙ c.if-not-is_whole.false))))
+    let z = whole_length a.id.0 (function_in a.f) a.ctx.now c.function_size-size.ensures in
+    rw c.from_residual.ensures (kept a.id.0 (function_in a.f) a.ctx.now c.is_whole.ensures c.if-not-is_whole.false (laid_none z (rw c.in_err-end.was at c.place_behind.ensures)))
 
 pub lay_blocks-requires-clause-room : goal.lay_blocks-requires-clause-room
 lay_blocks-requires-clause-room c =
     let a = c.args in
-    let f = function_in a.f in
-    let e = sized f a.ctx.now c.locals-locals.result.now c.param_count.ensures.count c.locals-locals.ensures.is c.blocks_size.ensures.is in
-    let q = leb-true _ _ (sym c.fits.ensures ∙ c.if-not-fits.false) in
-    blocks_room a.id.0 f a.ctx.now _ e (rw c.locals-locals.ensures.is at c.lay_head-place.ensures) (omega (arith, q, room_least (length a.out.now)))
+    blocks_room a.id.0 (function_in a.f) a.ctx.now c.function_size-size.ensures (rw c.locals.ensures.is at c.lay_head-blocks.ensures) (behind_in _ _ _ (rw c.in_ok-end.was at c.place_behind.ensures))
 
 pub returns : goal.returns
 returns c =
     let a = c.args in
-    let f = function_in a.f in
-    let e = sized f a.ctx.now c.locals-locals.result.now c.param_count.ensures.count c.locals-locals.ensures.is c.blocks_size.ensures.is in
-    let z = whole_length a.id.0 f a.ctx.now _ e in
-    let q = leb-true _ _ (sym c.fits.ensures ∙ c.if-not-fits.false) in (
-      λ h. laid_put (whole_put a.id.0 f a.ctx.now _ e (rw c.locals-locals.ensures.is at c.lay_head-place.ensures) c.lay_blocks.ensures) (omega (arith, z, q)),
-      λ h. absurd (omega (arith, h, leb-true _ _ (sym c.is_whole.ensures ∙ c.if-not-is_whole.false))),
-    )
+    let e = c.function_size-size.ensures in
+    let p = whole_put a.id.0 (function_in a.f) a.ctx.now e (rw c.locals.ensures.is at c.lay_head-blocks.ensures) c.lay_blocks.ensures in
+    kept a.id.0 (function_in a.f) a.ctx.now c.is_whole.ensures c.if-not-is_whole.false (laid_put (whole_length a.id.0 (function_in a.f) a.ctx.now e) (rw c.in_ok-end.was at c.place_behind.ensures) p)

@@ -1,31 +1,28 @@
 -- `lower_layout::lay_params`: the parameters before i are written. Assumes nothing.
-use mathlib.Core.Path.{◌≡◌, refl, ap, ◌∙◌}
+use mathlib.Core.Path.{refl, ap, ◌∙◌}
 use native.Mathlib.Omega.{arith}
-use Rattle.std.proofs.lemmas.List.{take_all}
-use Rattle.definitions.specs.Records.{write_type, write_items}
-use Rattle.lower_walk.specs.Layout.{param_values}
+use lib.ListN.{length}
+use Rattle.definitions.specs.Records.{write_type}
 use Rattle.contract_nodes.specs.Nodes.{function_in}
 use Rattle.lower_layout.proofs.Storing.{◌then◌, wrote, put_as}
-use Rattle.lower_layout.proofs.Records.{param_next, params_are}
+use Rattle.lower_layout.proofs.Records.{params_none, param_next, params_all, params_are}
 use Rattle.lower_layout.proofs.lay_params.Goals as goal
 
 pub loop-i-init : goal.loop-i-init
-unfolding write_items param_values
-loop-i-init c = record { is = refl; past = refl }
+loop-i-init c =
+    let e = c.enumerate-i-items.ensures in
+    rw (c.into_iter-i-iterator.ensures.into_iter_gives, e.source, e.count, c.params.ensures.is) (params_none _ _ _, omega (arith, c.param_count-n.ensures.count))
 
 pub loop-i-preserved : goal.loop-i-preserved
 loop-i-preserved c =
-    let a = c.args in
-    let l = c.loop-i in
+    let s = c.in-Some.ensures.steps in
     let t = c.from.ensures.1 ∙ ap write_type c.parse_ir_type-ty.ensures in
-    put_as (param_next l.i (function_in a.f).params c.param.result c.param.ensures)
-    (l.invariant then (wrote 2 l.i c.write-in-loop-i.ensures refl then put_as t (wrote 4 _ c.write-in-loop-i-2.ensures (omega arith))))
+    rw s.2
+    (param_next (rw s.0.is at c.loop-i.invariant.0) (wrote 2 _ (rw s.1 at c.write-in-loop-i.ensures) refl then put_as t (wrote 4 _ (rw s.1 at c.write-in-loop-i-2.ensures) (omega arith))), omega (arith, ap length s.0.is, c.loop-i.invariant.1))
 
 pub returns : goal.returns
 returns c =
     let ps = (function_in c.args.f).params in
-    let l = c.loop-i in
     let n = c.param_count-n in
-    let e = take_all l.i ps (omega (arith, n.ensures.count)) in
-    let k : n.result ≡ l.i = omega arith in
-    put_as (params_are ps) (wrote 2 _ (rw n.ensures.count at c.write.ensures) refl then rw (← e, k) l.invariant)
+    let b = rw c.in-None.ensures.steps.0 at c.loop-i.invariant in
+    put_as (params_are ps) (wrote 2 _ (rw n.ensures.count at c.write.ensures) refl then params_all b.0 b.1)

@@ -6,6 +6,7 @@ use Prim.Native.Nat.{◌+◌, ◌-◌, ◌*◌, ◌≤◌}
 use lib.ListN.{length}
 use Rattle.contract_nodes.specs.Nodes.{contract_in, stmts_in}
 use Rattle.lower_walk.specs.Stmts.{walk_stmts}
+use Rattle.lower_walk.specs.Grown.{Grown}
 use Rattle.lower_stmts.specs.Bodies.{Extends}
 use Rattle.lower_stmts.proofs.+stmts.Given as goal
 
@@ -34,5 +35,6 @@ invariant-lower_stmts-loop-t l = record {
   depth : l.t-iterator.depth ≡ l.fn.body.depth;
   room : length l.scopes.held ≤ length l.ctx.locals;
   names : Extends l.fn.scopes l.scopes;
+  grown : Grown l.fn.ctx l.ctx;
   is : walk_stmts (contract_in l.t-iterator.contract) l.scopes.scope l.scopes.held (stmts_in l.t-iterator) l.ctx ≡ walk_stmts (contract_in l.fn.body.contract) l.fn.scopes.scope l.fn.scopes.held (stmts_in l.fn.body) l.fn.ctx;
 }

@@ -5,7 +5,8 @@ use native.Mathlib.Omega.{arith}
 use lib.ListN.{length-append}
 use Rattle.program_nodes.specs.Nodes.{ir_of}
 use Rattle.machine_slots.specs.Slots.{param_id, blocks_results, value_ids}
-use Rattle.machine_slots.proofs.Searching.{left_as, left_on, left_found, one_on, one_found, one_room, nothing_left, handed_back}
+use Rattle.ir.proofs.Exits.{exit}
+use Rattle.machine_slots.proofs.Searching.{left_as, left_on, left_found, one_on, one_found, one_room, nothing_left}
 use Rattle.machine_slots.proofs.Walking.{param_front, no_param, block_front, no_block}
 use Rattle.machine_slots.proofs.Counting.{ids_high}
 use Rattle.machine_slots.proofs.search.Goals as goal
@@ -21,7 +22,7 @@ pass-requires c = omega (arith, one_room c.loop-param.invariant (param_front _ _
 
 pub returns-in_err-tally : goal.returns-in_err-tally
 returns-in_err-tally c =
-    handed_back c.in_err-tally.field-0.0 c.from_residual.result c.from_residual.ensures
+    exit c.from_residual.ensures.1
     ∙ one_found c.loop-param.invariant (param_front _ _ _ c.next.ensures.steps c.in-Some.is c.value-id.ensures) c.pass.ensures c.in_err-tally.was
 
 pub loop-param-preserved : goal.loop-param-preserved
@@ -39,7 +40,7 @@ pass_block-requires c =
 
 pub returns-in_err-tally-2 : goal.returns-in_err-tally-2
 returns-in_err-tally-2 c =
-    handed_back c.in_err-tally-2.field-0.0 c.from_residual-in_err-tally-2.result c.from_residual-in_err-tally-2.ensures
+    exit c.from_residual-in_err-tally-2.ensures.1
     ∙ left_found _ _ (left_as (block_front _ _ c.next-in-loop-block.ensures.steps c.in-Some-block.is) c.loop-block.invariant) (sym c.pass_block.ensures ∙ c.in_err-tally-2.was)
 
 pub loop-block-preserved : goal.loop-block-preserved

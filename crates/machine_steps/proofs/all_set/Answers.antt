@@ -8,7 +8,7 @@ loop-v-init c = rw c.into_iter-v-iterator.ensures.into_iter_gives all_to_ask
 
 pub returns-in_err-_word : goal.returns-in_err-_word
 returns-in_err-_word c =
-    asked_lacks _ _ _ c.loop-v.invariant c.next.ensures.steps c.in-Some.is c.value.ensures (asked_none c.ok_or.ensures.ok_part c.in_err-_word.was) (halts_by _ _ c.in_err-_word.field-0.0 _ c.from_residual.result c.ok_or.ensures.value c.ok_or.ensures.ok_part c.in_err-_word.was c.from_residual.ensures)
+    asked_lacks _ _ _ c.loop-v.invariant c.next.ensures.steps c.in-Some.is c.value.ensures (asked_none c.ok_or.ensures.ok_part c.in_err-_word.was) (halts_by c.ok_or.ensures.value c.ok_or.ensures.ok_part c.in_err-_word.was c.from_residual.ensures.1)
 
 pub loop-v-preserved : goal.loop-v-preserved
 loop-v-preserved c = asked_on _ _ _ c.loop-v.invariant c.next.ensures.steps c.in-Some.is c.value.ensures (asked_some c.ok_or.ensures.ok_part c.in_ok-_word.was)

@@ -5,7 +5,7 @@ use Rattle.machine_steps.proofs.step_assert.Goals as goal
 
 pub returns-in_err-_word : goal.returns-in_err-_word
 returns-in_err-_word c =
-    assert_lacks (halts_by _ _ c.in_err-_word.field-0.0 _ c.from_residual.result c.ok_or.ensures.value c.ok_or.ensures.ok_part c.in_err-_word.was c.from_residual.ensures) c.value.ensures (asked_none c.ok_or.ensures.ok_part c.in_err-_word.was)
+    assert_lacks (halts_by c.ok_or.ensures.value c.ok_or.ensures.ok_part c.in_err-_word.was c.from_residual.ensures.1) c.value.ensures (asked_none c.ok_or.ensures.ok_part c.in_err-_word.was)
 
 pub returns : goal.returns
 returns c = assert_passes c.value.ensures (asked_some c.ok_or.ensures.ok_part c.in_ok-_word.was)

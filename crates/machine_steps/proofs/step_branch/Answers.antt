@@ -5,7 +5,7 @@ use Rattle.machine_steps.proofs.step_branch.Goals as goal
 
 pub returns-in_err-word : goal.returns-in_err-word
 returns-in_err-word c =
-    branch_lacks c.value.ensures _ _ (asked_none c.ok_or.ensures.ok_part c.in_err-word.was) (halts_by _ _ c.in_err-word.field-0.0 _ c.from_residual.result c.ok_or.ensures.value c.ok_or.ensures.ok_part c.in_err-word.was c.from_residual.ensures)
+    branch_lacks c.value.ensures _ _ (asked_none c.ok_or.ensures.ok_part c.in_err-word.was) (halts_by c.ok_or.ensures.value c.ok_or.ensures.ok_part c.in_err-word.was c.from_residual.ensures.1)
 
 pub returns-then-word-eq0 : goal.returns-then-word-eq0
 returns-then-word-eq0 c = branch_else_lem c.value.ensures (asked_some c.ok_or.ensures.ok_part c.in_ok-word.was) _ _ c.if-word-eq0.true c.go_to.ensures

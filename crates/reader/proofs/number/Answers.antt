@@ -1,19 +1,19 @@
--- `reader::number`: the bytes from the i-th on are summed up. Assumes nothing.
-use Rattle.std.proofs.Common.{◌+◌, ◌-◌, ◌*◌, ◌^◌, ◌<◌, slice_index_or, arith, rules}
-use Rattle.reader.proofs.Reading.{none, more, fits, fits_more}
+-- `reader::number`: the number's last bytes are summed up, its first are left. Assumes nothing.
+use Rattle.std.proofs.Common.{arith}
+use Rattle.reader.proofs.Reading.{unread, last, fits, read}
 use Rattle.reader.proofs.number.Goals as goal
 
-pub loop-i-init : goal.loop-i-init
-loop-i-init c = none c.args.n c.args.s.now c.args.at
+pub loop-byte-init : goal.loop-byte-init
+loop-byte-init c = rw (c.into_iter-byte-iterator.ensures.into_iter_gives, c.rev-byte-items.ensures.source) (unread c.args.n c.args.s.now c.args.at _ c.requires.0 c.iter.ensures.rest)
+
+pub loop-byte-preserved : goal.loop-byte-preserved
+loop-byte-preserved c = last c.loop-byte.invariant _ c.in-Some.field-0.now c.in-Some.ensures.steps (λ i. (c.type_inv.s i).fits)
 
 pub overflow_mul-sum : goal.overflow_mul-sum
-overflow_mul-sum c = let room : c.loop-i.sum * 256 < 2 ^ 64 = fits_more c.loop-i.invariant c.loop-i-test.true (search rules) in record { fits = omega arith }
+overflow_mul-sum c = let room = fits c.loop-byte.invariant _ c.in-Some.field-0.now c.in-Some.ensures.steps (λ i. (c.type_inv.s i).fits) c.requires.1 in record { fits = omega (arith, room) }
 
-pub overflow_add-sum-in-loop-i : goal.overflow_add-sum-in-loop-i
-overflow_add-sum-in-loop-i c =
-    let byte = slice_index_or c.args.s.now (c.args.at + (c.loop-i.i - 1)) 0 in
-    let room : c.loop-i.sum * 256 + byte < 2 ^ 64 = fits (more c.loop-i.invariant c.loop-i-test.true (search rules)) (search rules) in
-    record { fits = omega arith }
+pub overflow_add-sum : goal.overflow_add-sum
+overflow_add-sum c = record { fits = fits c.loop-byte.invariant _ c.in-Some.field-0.now c.in-Some.ensures.steps (λ i. (c.type_inv.s i).fits) c.requires.1 }
 
-pub loop-i-preserved : goal.loop-i-preserved
-loop-i-preserved c = more c.loop-i.invariant c.loop-i-test.true (search rules)
+pub returns : goal.returns
+returns c = read c.loop-byte.invariant c.in-None.ensures.steps.0

@@ -1,15 +1,15 @@
 -- `sheet::check_contract`: the length, the form, then the limits. Assumes nothing.
-use Rattle.std.proofs.Common.{◌∙◌, sym, arith}
+use Rattle.std.proofs.Common.{sym, arith}
 use Rattle.definitions.proofs.Results.{told}
-use Rattle.sheet.specs.declared.errors.ContractError.TheVariants as error
 use Rattle.sheet.specs.Forms.{form_of, limits_of}
-use Rattle.sheet.proofs.Contracts.{passed_on, malformed, over_limit, within}
+use Rattle.ir.proofs.Exits.{exit}
+use Rattle.sheet.proofs.Contracts.{malformed, over_limit, within}
 use Rattle.sheet.proofs.check_contract.Goals as goal
 
 pub returns-in_err-contract_form : goal.returns-in_err-contract_form
 unfolding form_of
 returns-in_err-contract_form c =
-    passed_on c.from_residual.result (error.Malformed c.in_err-contract_form.field-0.0.0) c.from_residual.ensures ∙ malformed c.args.s.now (omega arith) (told form_of c.in_err-contract_form.was c.contract_form.ensures)
+    rw (exit c.from_residual.ensures.1) (malformed c.args.s.now (omega arith) (told form_of c.in_err-contract_form.was c.contract_form.ensures))
 
 pub contract_limits-requires : goal.contract_limits-requires
 unfolding form_of
@@ -18,8 +18,8 @@ contract_limits-requires c = sym (told form_of c.in_ok-contract_form.was c.contr
 pub returns-in_err-contract_limits : goal.returns-in_err-contract_limits
 unfolding form_of limits_of
 returns-in_err-contract_limits c =
-    passed_on c.from_residual-in_err-contract_limits.result (error.OverLimit c.in_err-contract_limits.field-0.0.0) c.from_residual-in_err-contract_limits.ensures
-    ∙ over_limit c.args.s.now (omega arith) (told form_of c.in_ok-contract_form.was c.contract_form.ensures) (told limits_of c.in_err-contract_limits.was c.contract_limits.ensures)
+    rw (exit c.from_residual-in_err-contract_limits.ensures.1)
+    (over_limit c.args.s.now (omega arith) (told form_of c.in_ok-contract_form.was c.contract_form.ensures) (told limits_of c.in_err-contract_limits.was c.contract_limits.ensures))
 
 pub returns : goal.returns
 unfolding form_of limits_of

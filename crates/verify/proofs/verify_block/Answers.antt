@@ -1,6 +1,6 @@
 -- `verify::verify_block`: the first record, or the end. Assumes nothing.
 use Rattle.program_nodes.specs.Nodes.{block_in, node_in}
-use Rattle.verify_state.proofs.Steps.{handed_on}
+use Rattle.ir.proofs.Exits.{exit}
 use Rattle.verify.proofs.Seconds.{whole_block, an_instr, a_term, instr_failed, instr_passed, terminator_says, missing}
 use Rattle.verify.proofs.verify_block.Goals as goal
 
@@ -10,7 +10,7 @@ loop-record-init c = let E = c.records-record-items.ensures in rw c.into_iter-re
 pub returns-in_err-verify_instr-in-Instr : goal.returns-in_err-verify_instr-in-Instr
 returns-in_err-verify_instr-in-Instr c =
     let F = an_instr c.in-Some.ensures.steps c.in-Instr.is in
-    rw (handed_on c.from_residual.result c.in_err-verify_instr-in-Instr.field-0.0 c.from_residual.ensures)
+    rw (exit c.from_residual.ensures.1)
     (instr_failed (block_in c.args.block).id c.loop-record.invariant (node_in c.in-Instr.instr) _ F.instrs F.terminator c.node.ensures c.in_err-verify_instr-in-Instr.ensures)
 
 pub loop-record-preserved : goal.loop-record-preserved

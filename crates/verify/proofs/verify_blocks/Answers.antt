@@ -1,5 +1,5 @@
 -- `verify::verify_blocks`: the first block, or it is over. Assumes nothing.
-use Rattle.verify_state.proofs.Steps.{handed_on}
+use Rattle.ir.proofs.Exits.{exit}
 use Rattle.verify.proofs.Seconds.{whole_blocks, block_failed, block_passed, blocks_over}
 use Rattle.verify.proofs.verify_blocks.Goals as goal
 
@@ -8,7 +8,7 @@ loop-block-init c = rw c.into_iter-block-iterator.ensures.into_iter_gives (whole
 
 pub returns-in_err-verify_block : goal.returns-in_err-verify_block
 returns-in_err-verify_block c =
-    rw (handed_on c.from_residual.result c.in_err-verify_block.field-0.0 c.from_residual.ensures)
+    rw (exit c.from_residual.ensures.1)
     (block_failed c.loop-block.invariant c.in-Some.block _ c.in-Some.ensures.steps.is c.in_err-verify_block.ensures)
 
 pub loop-block-preserved : goal.loop-block-preserved

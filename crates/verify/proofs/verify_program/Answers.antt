@@ -4,7 +4,7 @@ use mathlib.Core.List.{List}
 use Rattle.definitions.specs.Ir.{IrFunction}
 use Rattle.definitions.specs.Verify.{verify_functions}
 use Rattle.program_nodes.specs.Positions.{ids_of_all}
-use Rattle.verify_state.proofs.Steps.{handed_on}
+use Rattle.ir.proofs.Exits.{exit}
 use Rattle.verify.proofs.Seconds.{function_failed, function_passed, functions_over}
 use Rattle.verify.proofs.verify_program.Goals as goal
 
@@ -14,7 +14,7 @@ loop-function-init c = let E = c.functions-function-items.ensures in rw c.into_i
 pub returns-in_err-verify_function : goal.returns-in_err-verify_function
 returns-in_err-verify_function c =
     let F = c.in-Some.ensures.steps in
-    rw (handed_on c.from_residual.result c.in_err-verify_function.field-0.0 c.from_residual.ensures)
+    rw (exit c.from_residual.ensures.1)
     (function_failed c.in-Some.function F.is (ap ids_of_all (F.sheet ∙ c.loop-function.invariant.0)) c.loop-function.invariant.1 c.in_err-verify_function.ensures)
 
 pub loop-function-preserved : goal.loop-function-preserved

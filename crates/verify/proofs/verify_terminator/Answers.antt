@@ -1,5 +1,5 @@
 -- `verify::verify_terminator`: by what the terminator is. Assumes nothing.
-use Rattle.verify_state.proofs.Steps.{handed_on}
+use Rattle.ir.proofs.Exits.{exit}
 use Rattle.verify.proofs.Instrs.{unreachable, condition_failed, then_failed, branch, jump, return}
 use Rattle.verify.proofs.verify_terminator.Goals as goal
 
@@ -8,12 +8,12 @@ returns-in-Jump c = jump c.args.f c.in-Jump.is c.check_block.ensures
 
 pub returns-in_err-check_condition-in-Branch : goal.returns-in_err-check_condition-in-Branch
 returns-in_err-check_condition-in-Branch c =
-    rw (handed_on c.from_residual.result c.in_err-check_condition-in-Branch.field-0.0 c.from_residual.ensures) (condition_failed c.args.f c.in-Branch.is c.in_err-check_condition-in-Branch.ensures)
+    rw (exit c.from_residual.ensures.1) (condition_failed c.args.f c.in-Branch.is c.in_err-check_condition-in-Branch.ensures)
 
 pub returns-in_err-check_block-in-Branch : goal.returns-in_err-check_block-in-Branch
 returns-in_err-check_block-in-Branch c =
     let r = c.from_residual-in_err-check_block-in-Branch in
-    rw (handed_on r.result c.in_err-check_block-in-Branch.field-0.0 r.ensures) (then_failed c.args.f c.in-Branch.is c.in_ok-check_condition-in-Branch.ensures c.in_err-check_block-in-Branch.ensures)
+    rw (exit r.ensures.1) (then_failed c.args.f c.in-Branch.is c.in_ok-check_condition-in-Branch.ensures c.in_err-check_block-in-Branch.ensures)
 
 pub returns-in_ok-check_block-in-Branch : goal.returns-in_ok-check_block-in-Branch
 returns-in_ok-check_block-in-Branch c = branch c.args.f c.in-Branch.is c.in_ok-check_condition-in-Branch.ensures c.in_ok-check_block-in-Branch.ensures c.check_block-in-Branch-2.ensures

@@ -1,7 +1,7 @@
 -- `verify_define::define_block`: the first instruction, or it is over. Assumes nothing.
 use Rattle.definitions.specs.Verify.{define_results}
 use Rattle.program_nodes.specs.Nodes.{node_in}
-use Rattle.verify_state.proofs.Steps.{handed_on}
+use Rattle.ir.proofs.Exits.{exit}
 use Rattle.verify_define.proofs.Firsts.{start, an_instr, a_term, result_failed, result_passed, instrs_over}
 use Rattle.verify_define.proofs.define_block.Goals as goal
 
@@ -11,7 +11,7 @@ loop-record-init c = let E = c.records-record-items.ensures in rw c.into_iter-re
 pub returns-in_err-define_result-in-Instr : goal.returns-in_err-define_result-in-Instr
 returns-in_err-define_result-in-Instr c =
     let F = an_instr c.in-Some.ensures.steps c.in-Instr.is in
-    rw (handed_on c.from_residual.result c.in_err-define_result-in-Instr.field-0.0 c.from_residual.ensures) (result_failed _ c.in-Instr.instr.at (node_in c.in-Instr.instr) F.definitions F.instrs c.loop-record.invariant c.in_err-define_result-in-Instr.ensures)
+    rw (exit c.from_residual.ensures.1) (result_failed _ c.in-Instr.instr.at (node_in c.in-Instr.instr) F.definitions F.instrs c.loop-record.invariant c.in_err-define_result-in-Instr.ensures)
 
 pub loop-record-preserved : goal.loop-record-preserved
 loop-record-preserved c =

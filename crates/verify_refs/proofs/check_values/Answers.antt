@@ -1,5 +1,5 @@
 -- `verify_refs::check_values`: the first is not defined, or the rest decides. Assumes nothing.
-use Rattle.verify_state.proofs.Steps.{handed_on}
+use Rattle.ir.proofs.Exits.{exit}
 use Rattle.verify_refs.proofs.Values.{all_left, values_failed, values_passed, values_over}
 use Rattle.verify_refs.proofs.check_values.Goals as goal
 
@@ -7,7 +7,7 @@ pub loop-v-init : goal.loop-v-init
 loop-v-init c = rw c.into_iter-v-iterator.ensures.into_iter_gives (all_left _)
 
 pub returns-in_err-check_value : goal.returns-in_err-check_value
-returns-in_err-check_value c = rw (handed_on c.from_residual.result c.in_err-check_value.field-0.0 c.from_residual.ensures) (values_failed _ _ c.in-Some.ensures.steps.is c.loop-v.invariant c.in_err-check_value.ensures)
+returns-in_err-check_value c = rw (exit c.from_residual.ensures.1) (values_failed _ _ c.in-Some.ensures.steps.is c.loop-v.invariant c.in_err-check_value.ensures)
 
 pub loop-v-preserved : goal.loop-v-preserved
 loop-v-preserved c = values_passed _ _ c.in-Some.ensures.steps.is c.loop-v.invariant c.in_ok-check_value.ensures

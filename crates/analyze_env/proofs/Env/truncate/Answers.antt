@@ -1,20 +1,36 @@
 -- `analyze_env::Env::truncate`: the newest entry's chain gets back the head from before it. Assumes nothing.
-use mathlib.Core.Path.{◌≡◌, refl}
+use Prim.Native.Nat.{◌-◌}
 use native.Mathlib.Omega.{arith}
-use Rattle.analyze_env.proofs.Chains.{dropped, count_is, cut}
+use borrow.Rule.Slice.PartMut.{put_same}
+use Rattle.analyze_env.proofs.Chains.{all_left, newest_undone, all_undone, reaches, cut}
 use Rattle.analyze_env.proofs.Env.truncate.Goals as goal
 
-pub loop-self-init : goal.loop-self-init
-loop-self-init c =
+pub offset_bounds-self-inside-mark : goal.offset_bounds-self-inside-mark
+offset_bounds-self-inside-mark c =
     let i = c.self.inside in
-    (c.self.invariant, refl, omega (arith, c.requires, count_is i.entries.now i.count c.self.view_is))
+    record { fits = omega (arith, c.self.invariant.room, c.self.invariant.short, reaches i.entries.now i.count c.self.view_is c.requires) }
 
-pub loop-self-preserved : goal.loop-self-preserved
-loop-self-preserved c =
-    (dropped c.loop-self.invariant.0 (omega arith) c.chain_of-chain.ensures, c.loop-self.invariant.1, omega arith)
+pub slice_bounds-going-count : goal.slice_bounds-going-count
+slice_bounds-going-count c = reaches c.self.inside.entries.now c.self.inside.count c.self.view_is c.requires
+
+pub slice_bounds-going-start : goal.slice_bounds-going-start
+slice_bounds-going-start c = reaches c.self.inside.entries.now c.self.inside.count c.self.view_is c.requires
+
+pub loop-e-init : goal.loop-e-init
+loop-e-init c = all_left _ _ _
+
+pub loop-e-preserved : goal.loop-e-preserved
+loop-e-preserved c = newest_undone c.loop-e.invariant _ _ c.in-Some.ensures.steps c.chain_of-chain.ensures
+
+pub invariant_of-self : goal.invariant_of-self
+invariant_of-self c =
+    let i = c.self.inside in
+    rw (put_same c.args.mark (i.count - c.args.mark) i.entries.now)
+    (all_undone c.loop-e.invariant c.self.invariant (reaches i.entries.now i.count c.self.view_is c.requires)
+    (rw (c.into_iter-e-iterator.ensures.into_iter_gives, c.rev-e-items.ensures.source) c.iter.ensures.rest) c.in-None.ensures.steps.0)
 
 pub returns : goal.returns
 returns c =
     let i = c.self.inside in
-    let e : c.loop-self.self-inside.count ≡ c.args.mark = omega arith in
-    rw (c.loop-self.invariant.1, e) (cut i.entries.now i.count c.self.view_is c.args.mark (omega (arith, c.requires, count_is i.entries.now i.count c.self.view_is)))
+    rw (put_same c.args.mark (i.count - c.args.mark) i.entries.now)
+    (cut i.entries.now i.count c.self.view_is c.args.mark (reaches i.entries.now i.count c.self.view_is c.requires))

@@ -8,10 +8,10 @@ use Rattle.analyze_exprs.proofs.calls.finish_call.Goals as goal
 pub returns-in-BuiltIn : goal.returns-in-BuiltIn
 returns-in-BuiltIn c =
     let k = c.in-BuiltIn in
-    call_of c.in-Some.is c.args.at c.args.n c.args.fits (built_in k.is) (u64s_length k.many) refl c.finish.ensures
+    call_of c.in_ok-many.ensures.ok_part c.args.at c.args.n c.args.fits (built_in k.is) (u64s_length k.many) refl c.finish.ensures
 
 pub returns-in-Declared : goal.returns-in-Declared
 returns-in-Declared c =
     let k = c.in-Declared in
-    call_of c.in-Some.is c.args.at c.args.n c.args.fits (declared k.is) (types_length (function_in k.f).params ∙ sym c.param_count.ensures.count)
+    call_of c.in_ok-many.ensures.ok_part c.args.at c.args.n c.args.fits (declared k.is) (types_length (function_in k.f).params ∙ sym c.param_count.ensures.count)
     (c.return_type-in-Declared.ensures ∙ ap return_type c.return_type.ensures) c.finish-in-Declared.ensures

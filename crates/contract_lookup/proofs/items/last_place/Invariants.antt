@@ -1,10 +1,7 @@
-use mathlib.Core.Path.{◌≡◌}
-use Prim.Native.Nat.{◌≤◌}
-use Rattle.contract_lookup.proofs.Placing.{last_in}
+use Rattle.std.specs.Iterator.Adapters.{rev_source}
+use Rattle.std.specs.Slice.Iter.{iter_rest}
+use Rattle.contract_lookup.proofs.Placing.{Left}
 use Rattle.contract_lookup.proofs.items.last_place.Given as goal
 
-abbrev pub invariant-loop-i : goal.invariant-loop-i
-invariant-loop-i l = (l.i ≤ l.n) × (last_in l.s l.places l.i l.name.0 ≡ last_in l.s l.places l.n l.name.0)
-
-abbrev pub decreases-loop-i : goal.decreases-loop-i
-decreases-loop-i l = l.i
+abbrev pub invariant-loop-place : goal.invariant-loop-place
+invariant-loop-place l = Left l.contract.sheet.now l.places l.name.0 (iter_rest (rev_source l.place-iterator))

@@ -1,27 +1,19 @@
--- `contract_lookup::symbols::field_position`: the search goes on from the field at `field`. Assumes nothing.
-use mathlib.Core.Path.{ap, sym, ◌∙◌}
-use Prim.Native.Nat.{ℕ, ◌+◌}
-use Rattle.contract_nodes.proofs.Standing.{ready}
-use Rattle.contract_nodes.proofs.Children.{size_fits}
-use Rattle.contract_lookup.proofs.Firsts.{begun, over, hit, position_low, miss}
+-- `contract_lookup::symbols::field_position`: the first of a name among the fields in order. Assumes nothing.
+use mathlib.Core.Path.{ap, ◌∙◌}
+use mathlib.Core.List.{List}
+use Rattle.std.proofs.Common.{rules, tests}
+use Rattle.std.proofs.lemmas.Iterator.Search.{position_from_yields_List}
+use Rattle.std.proofs.lemmas.Iterator.Adapters.{position_from-zero}
+use Rattle.definitions.specs.Ast.{Param}
+use Rattle.definitions.specs.Lower.{field_position}
+use Rattle.ir.specs.Answers.{option_of}
+use Rattle.contract_nodes.specs.Nodes.{params_left}
+use Rattle.contract_lookup.proofs.FieldWalks.{walk, has, first_is}
 use Rattle.contract_lookup.proofs.symbols.field_position.Goals as goal
 
-pub read-requires : goal.read-requires
-read-requires c = size_fits (ready {d = 39} c.args.of.ready)
-
-pub loop-field-init : goal.loop-field-init
-loop-field-init c = begun c.args.name.0 _ (ready {d = 39} c.args.of.ready) (ap (λ (x : ℕ). c.args.of.at + x) c.read.ensures.0)
-
-pub returns-then-read_u16-name-clause-is : goal.returns-then-read_u16-name-clause-is
-returns-then-read_u16-name-clause-is c =
-    hit c.loop-field.invariant c.loop-field-test.true (sym c.read_u16.ensures ∙ c.if-read_u16-name.true)
-
-pub loop-field-preserved : goal.loop-field-preserved
-loop-field-preserved c =
-    miss c.loop-field.invariant c.loop-field-test.true (λ z. c.if-read_u16-name.false (c.read_u16.ensures ∙ z))
-
-pub returns-then-read_u16-name-clause-most : goal.returns-then-read_u16-name-clause-most
-returns-then-read_u16-name-clause-most c = position_low c.loop-field.invariant c.loop-field-test.true
-
 pub returns-clause-is : goal.returns-clause-is
-returns-clause-is c = over c.loop-field.invariant c.loop-field-test.false
+returns-clause-is c =
+    let n = c.args.name.0 in
+    let ps = params_left c.fields.result in
+    let found = position_from_yields_List (has n) _ _ c.position.result c.position.ensures.ran (walk c.fields.result) (λ x b q k. search (rules, tests)) in
+    ap (option_of (λ i. i)) (found ∙ position_from-zero (has n) ps) ∙ (first_is n 0 ps ∙ ap (λ (qs : List Param). field_position qs n) c.fields.ensures.is)

@@ -1,26 +1,22 @@
--- `contract_lookup::symbols::field_type`: the search goes on before `field`. Assumes nothing.
-use mathlib.Core.Path.{ap, sym, ◌∙◌}
-use Prim.Native.Nat.{ℕ, ◌+◌}
-use Rattle.definitions.specs.Sema.{from_str}
-use Rattle.contract_nodes.proofs.Standing.{ready}
-use Rattle.contract_nodes.proofs.Children.{size_fits}
-use Rattle.contract_lookup.proofs.LastFields.{begun, over, hit, miss}
+-- `contract_lookup::symbols::field_type`: the last of a name among the fields in order. Assumes nothing.
+use mathlib.Core.Path.{ap, ◌∙◌}
+use mathlib.Core.List.{List}
+use Rattle.std.proofs.Common.{rules, tests}
+use Rattle.std.proofs.lemmas.Iterator.{items_from_drains}
+use Rattle.std.proofs.lemmas.Iterator.Consumers.{YieldsList-from_filter, YieldsList-at}
+use Rattle.definitions.specs.Ast.{Param}
+use Rattle.contract_nodes.specs.Nodes.{params_left}
+use Rattle.contract_lookup.specs.Answers.{field_type_named}
+use Rattle.contract_lookup.proofs.FieldWalks.{walk, has, last_typed}
 use Rattle.contract_lookup.proofs.symbols.field_type.Goals as goal
 
-pub read-requires : goal.read-requires
-read-requires c = size_fits (ready {d = 39} c.args.of.ready)
-
-pub loop-field-init : goal.loop-field-init
-loop-field-init c = begun c.args.name.0 _ (ready {d = 39} c.args.of.ready) (ap (λ (x : ℕ). c.args.of.at + x) c.read.ensures.0)
-
-pub returns-then-read_u16-name : goal.returns-then-read_u16-name
-returns-then-read_u16-name c =
-    hit c.loop-field.invariant c.loop-field-test.true (sym c.read_u16.ensures ∙ c.if-read_u16-name.true)
-    (c.from_str.ensures ∙ ap from_str (c.new.ensures ∙ c.read_u16-ty.ensures))
-
-pub loop-field-preserved : goal.loop-field-preserved
-loop-field-preserved c =
-    miss c.loop-field.invariant c.loop-field-test.true (λ z. c.if-read_u16-name.false (c.read_u16.ensures ∙ z))
-
 pub returns : goal.returns
-returns c = over c.loop-field.invariant c.loop-field-test.false
+returns c =
+    let n = c.args.name.0 in
+    let ps = params_left c.fields.result in
+    let d = c.last.ensures.ran.1 in
+    let are =
+    items_from_drains c.last.ensures.ran.0 (d.1.0, d.1.1, λ z. (d.0, d.1.2))
+    (YieldsList-from_filter _ (has n) (YieldsList-at c.filter.ensures.source (walk c.fields.result)) c.filter.ensures.closure (λ x r q k. search (rules, tests)))
+    in
+    last_typed n ps c.last.ensures.ran.0 c.last.result c.map.result are c.last.ensures.ran.2 (search (rules, tests)) ∙ ap (λ (qs : List Param). field_type_named qs n) c.fields.ensures.is

@@ -1,8 +1,7 @@
--- `records::put_ids`: the ids so far are appended. Assumes nothing.
-use Rattle.std.proofs.Common.{List, ℕ, ◌++◌, take}
-use Rattle.std.specs.Prelude.{Some}
-use Rattle.lower_state.specs.Bytes.{id_bytes, ids_of, Added}
+-- `records::put_ids`: the ids so far are stored. Assumes nothing.
+use Rattle.std.proofs.Common.{◌≡◌, ◌+◌, ◌*◌, take}
+use Rattle.lower_state.specs.Bytes.{id_bytes, ids_of, Stored}
 use Rattle.lower_state.proofs.records.put_ids.Given as goal
 
 abbrev pub invariant-loop-id : goal.invariant-loop-id
-invariant-loop-id l = (k x : List ℕ) (from : ℕ) → Added k from x l.initial.log (Some l.at) → Added k from (x ++ id_bytes (ids_of (take l.id-index l.ids))) l.log (Some l.to)
+invariant-loop-id l = Stored l.initial.log l.at (id_bytes (ids_of (take l.id-index l.ids))) l.log l.to × (l.to ≡ l.at + 2 * l.id-index)

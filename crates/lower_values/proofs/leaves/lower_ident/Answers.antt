@@ -1,6 +1,6 @@
 -- `leaves::lower_ident`: by what is held. Assumes nothing.
 use mathlib.Core.Path.{refl, ap, sym, ◌∙◌}
-use Rattle.std.proofs.lemmas.Result.{err_from_is_err_and}
+use Rattle.ir.proofs.Exits.{exit}
 use Rattle.definitions.specs.Result.{ok}
 use Rattle.ir.specs.Answers.{option_of}
 use Rattle.lower_walk.specs.Exprs.{Walked}
@@ -10,9 +10,8 @@ use Rattle.lower_values.proofs.leaves.lower_ident.Goals as goal
 
 pub returns-in_err-local-clause-is : goal.returns-in_err-local-clause-is
 returns-in_err-local-clause-is c =
-    let p = err_from_is_err_and c.from_residual.result c.from_residual.ensures.1 in
     let f = c.in_err-local.ensures in
-    rw (p.1, p.2)
+    rw (exit c.from_residual.ensures.1)
     (refused _ f.ok_part f.value (not_held _ _ _ (sym c.lookup.ensures ∙ ap (option_of local_of) f.ok_part)))
 
 pub returns-clause-is : goal.returns-clause-is

@@ -12,7 +12,7 @@ returns-then-slot-ge-NEGATIVE-clause-is c = reads_negative _ _ c.if-slot-ge-NEGA
 pub returns-in_err-word-clause-is : goal.returns-in_err-word-clause-is
 returns-in_err-word-clause-is c =
     reads_none (omega (arith, c.if-slot-ge-NEGATIVE.false)) _ (got_none (λ (x : Bor ℕ). x.now) _ _ _ c.get.ensures.lookup.0 (asked_none c.ok_or.ensures.ok_part c.in_err-word.was))
-    (halts_by _ _ c.in_err-word.field-0.0 _ c.from_residual.result c.ok_or.ensures.value c.ok_or.ensures.ok_part c.in_err-word.was c.from_residual.ensures)
+    (halts_by c.ok_or.ensures.value c.ok_or.ensures.ok_part c.in_err-word.was c.from_residual.ensures.1)
 
 pub returns-clause-is : goal.returns-clause-is
 returns-clause-is c =

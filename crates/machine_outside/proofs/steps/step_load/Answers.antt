@@ -5,7 +5,7 @@ use Rattle.machine_outside.proofs.steps.step_load.Goals as goal
 
 pub returns-in_err-_word-clause-does : goal.returns-in_err-_word-clause-does
 returns-in_err-_word-clause-does c =
-    load_lacks c.value.ensures _ (asked_none c.ok_or.ensures.ok_part c.in_err-_word.was) (halts_by _ _ c.in_err-_word.field-0.0 _ c.from_residual.result c.ok_or.ensures.value c.ok_or.ensures.ok_part c.in_err-_word.was c.from_residual.ensures)
+    load_lacks c.value.ensures _ (asked_none c.ok_or.ensures.ok_part c.in_err-_word.was) (halts_by c.ok_or.ensures.value c.ok_or.ensures.ok_part c.in_err-_word.was c.from_residual.ensures.1)
 
 pub returns-clause-does : goal.returns-clause-does
 returns-clause-does c = load_does c.value.ensures (asked_some c.ok_or.ensures.ok_part c.in_ok-_word.was) c.take_outside.ensures.does

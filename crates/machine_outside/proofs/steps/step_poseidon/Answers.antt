@@ -6,12 +6,12 @@ use Rattle.machine_outside.proofs.steps.step_poseidon.Goals as goal
 pub returns-in_err-_a-clause-does : goal.returns-in_err-_a-clause-does
 returns-in_err-_a-clause-does c =
     poseidon_lacks_left c.value.ensures _ _ (asked_none c.ok_or.ensures.ok_part c.in_err-_a.was)
-    (halts_by _ _ c.in_err-_a.field-0.0 _ c.from_residual.result c.ok_or.ensures.value c.ok_or.ensures.ok_part c.in_err-_a.was c.from_residual.ensures)
+    (halts_by c.ok_or.ensures.value c.ok_or.ensures.ok_part c.in_err-_a.was c.from_residual.ensures.1)
 
 pub returns-in_err-_b-clause-does : goal.returns-in_err-_b-clause-does
 returns-in_err-_b-clause-does c =
     poseidon_lacks_right c.value.ensures (asked_some c.ok_or.ensures.ok_part c.in_ok-_a.was) c.value-2.ensures _ (asked_none c.ok_or-2.ensures.ok_part c.in_err-_b.was)
-    (halts_by _ _ c.in_err-_b.field-0.0 _ c.from_residual-in_err-_b.result c.ok_or-2.ensures.value c.ok_or-2.ensures.ok_part c.in_err-_b.was c.from_residual-in_err-_b.ensures)
+    (halts_by c.ok_or-2.ensures.value c.ok_or-2.ensures.ok_part c.in_err-_b.was c.from_residual-in_err-_b.ensures.1)
 
 pub returns-clause-does : goal.returns-clause-does
 returns-clause-does c = poseidon_does c.value.ensures (asked_some c.ok_or.ensures.ok_part c.in_ok-_a.was) c.value-2.ensures (asked_some c.ok_or-2.ensures.ok_part c.in_ok-_b.was) c.take_outside.ensures.does

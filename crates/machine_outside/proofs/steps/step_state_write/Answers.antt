@@ -1,18 +1,18 @@
 -- `machine_outside::steps::step_state_write`: the value, then the slot, which takes its word. Assumes nothing.
 use mathlib.Core.Path.{refl}
-use Rattle.machine_slots.proofs.Searching.{handed_back}
+use Rattle.ir.proofs.Exits.{exit}
 use Rattle.machine_state.proofs.Asking.{asked_some, asked_none, halts_by}
 use Rattle.machine_outside.proofs.Doing.{write_lacks, write_absent, write_does}
 use Rattle.machine_outside.proofs.steps.step_state_write.Goals as goal
 
 pub returns-in_err-word : goal.returns-in_err-word
 returns-in_err-word c =
-    write_lacks c.value.ensures _ _ (asked_none c.ok_or.ensures.ok_part c.in_err-word.was) (halts_by _ _ c.in_err-word.field-0.0 _ c.from_residual.result c.ok_or.ensures.value c.ok_or.ensures.ok_part c.in_err-word.was c.from_residual.ensures)
+    write_lacks c.value.ensures _ _ (asked_none c.ok_or.ensures.ok_part c.in_err-word.was) (halts_by c.ok_or.ensures.value c.ok_or.ensures.ok_part c.in_err-word.was c.from_residual.ensures.1)
 
 pub returns-in_err-_before : goal.returns-in_err-_before
 returns-in_err-_before c =
     write_absent c.value.ensures (asked_some c.ok_or.ensures.ok_part c.in_ok-word.was) c.state_word.ensures.is _ c.in_err-_before.was
-    (handed_back c.in_err-_before.field-0.0 c.from_residual-in_err-_before.result c.from_residual-in_err-_before.ensures)
+    (exit c.from_residual-in_err-_before.ensures.1)
 
 pub returns : goal.returns
 returns c = write_does c.value.ensures (asked_some c.ok_or.ensures.ok_part c.in_ok-word.was) c.state_word.ensures.is c.in_ok-_before.was refl

@@ -6,7 +6,7 @@ use Rattle.machine_outside.proofs.steps.take_outside.Goals as goal
 
 pub returns-in_err-word-clause-does : goal.returns-in_err-word-clause-does
 returns-in_err-word-clause-does c =
-    takes_none c.args.outside.now c.next.new.self c.next.ensures.steps _ (asked_none c.ok_or.ensures.ok_part c.in_err-word.was) (halts_by _ _ c.in_err-word.field-0.0 _ c.from_residual.result c.ok_or.ensures.value c.ok_or.ensures.ok_part c.in_err-word.was c.from_residual.ensures)
+    takes_none c.args.outside.now c.next.new.self c.next.ensures.steps _ (asked_none c.ok_or.ensures.ok_part c.in_err-word.was) (halts_by c.ok_or.ensures.value c.ok_or.ensures.ok_part c.in_err-word.was c.from_residual.ensures.1)
 
 pub returns-clause-does : goal.returns-clause-does
 returns-clause-does c = takes_one c.args.outside.now c.next.new.self c.next.ensures.steps (asked_some c.ok_or.ensures.ok_part c.in_ok-word.was) c.requires (search rules) c.give.ensures

@@ -1,7 +1,6 @@
 -- `machine_slots::Ids::slot_of`: the id itself where the ids are dense, and else its position. Assumes nothing.
-use mathlib.Core.Path.{ap, sym, ◌∙◌}
+use mathlib.Core.Path.{ap, ap₂, sym, ◌∙◌}
 use Prim.Native.Nat.{ℕ}
-use native.Mathlib.Omega.{arith}
 use lib.ListN.{length}
 use Rattle.std.specs.Prelude.{Result}
 use Rattle.std.specs.Result.{result_err}
@@ -9,7 +8,7 @@ use Rattle.ir.specs.Answers.{option_of}
 use Rattle.program_nodes.specs.Nodes.{ir_of}
 use Rattle.machine_slots.specs.Slots.{value_ids, one_of}
 use Rattle.machine_slots.specs.declared.Tally.{Tally}
-use Rattle.machine_slots.proofs.Searching.{one_in, one_out, position_is, in_order, by_id}
+use Rattle.machine_slots.proofs.Searching.{one_told, position_is, in_order, by_id}
 use Rattle.machine_slots.proofs.Ids.slot_of.Goals as goal
 
 pub returns-then-not-dense : goal.returns-then-not-dense
@@ -19,12 +18,8 @@ returns-then-not-dense c =
     ∙ (ap (λ (r : Result Tally ℕ). option_of (λ (i : ℕ). i) (result_err r)) c.search.ensures
     ∙ (position_is c.args.v.0 ids ∙ ap (one_of (length ids)) (sym (in_order ids c.args.v.0 c.args.self.count_is c.args.self.above_is (sym c.dense.ensures ∙ c.if-not-dense.true)))))
 
-pub returns-then-slot-self : goal.returns-then-slot-self
-returns-then-slot-self c =
+pub returns : goal.returns
+returns c =
     let ids = value_ids (ir_of c.args.self.function) in
-    one_in (length ids) c.args.v.0 (omega (arith, c.args.self.count_is, c.if-slot-self.true)) ∙ ap (one_of (length ids)) (sym (by_id ids c.args.v.0 c.args.self.count_is c.args.self.above_is (sym c.dense.ensures ∙ c.if-not-dense.false)))
-
-pub returns-else-slot-self : goal.returns-else-slot-self
-returns-else-slot-self c =
-    let ids = value_ids (ir_of c.args.self.function) in
-    one_out (length ids) c.args.v.0 (omega (arith, c.args.self.count_is, c.if-slot-self.false)) ∙ ap (one_of (length ids)) (sym (by_id ids c.args.v.0 c.args.self.count_is c.args.self.above_is (sym c.dense.ensures ∙ c.if-not-dense.false)))
+    ap (option_of (λ (i : ℕ). i)) c.then_some.ensures
+    ∙ (one_told c.args.self.count c.args.v.0 ∙ ap₂ one_of c.args.self.count_is (sym (by_id ids c.args.v.0 c.args.self.count_is c.args.self.above_is (sym c.dense.ensures ∙ c.if-not-dense.false))))

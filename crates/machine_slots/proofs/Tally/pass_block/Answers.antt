@@ -2,7 +2,8 @@
 use mathlib.Core.Path.{refl, ap, sym, ◌∙◌}
 use native.Mathlib.Omega.{arith}
 use Rattle.machine_slots.specs.Slots.{block_results}
-use Rattle.machine_slots.proofs.Searching.{left_as, one_on, one_found, one_room, nothing_left, handed_back}
+use Rattle.ir.proofs.Exits.{exit}
+use Rattle.machine_slots.proofs.Searching.{left_as, one_on, one_found, one_room, nothing_left}
 use Rattle.machine_slots.proofs.Walking.{instr_taken, other_taken, none_taken, result_front, no_result}
 use Rattle.machine_slots.proofs.Tally.pass_block.Goals as goal
 
@@ -15,7 +16,7 @@ pass-requires c = omega (arith, one_room c.loop-record.invariant (result_front (
 
 pub returns-in_err-tally : goal.returns-in_err-tally
 returns-in_err-tally c =
-    handed_back c.in_err-tally.field-0.0 c.from_residual.result c.from_residual.ensures
+    exit c.from_residual.ensures.1
     ∙ one_found c.loop-record.invariant (result_front (instr_taken c.next.ensures.steps c.in-Some.is c.in-Instr.is) c.result.ensures c.in-Some-result.is) c.pass.ensures c.in_err-tally.was
 
 pub loop-record-preserved-in-Some-result : goal.loop-record-preserved-in-Some-result

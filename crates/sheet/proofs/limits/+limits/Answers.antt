@@ -1,10 +1,11 @@
 -- `sheet::limits::limits`: each record's way through the code, by `Within`. Assumes nothing.
-use Rattle.std.proofs.Common.{ℕ, ◌+◌, ◌∙◌, ap, arith}
+use Rattle.std.proofs.Common.{ℕ, ◌+◌, ap, arith}
 use Rattle.definitions.proofs.Results.{told}
 use Rattle.format.specs.Kinds.{number_of}
 use Rattle.sheet.specs.Forms.{limits_of}
 use Rattle.sheet.specs.Limits.{counts_of}
-use Rattle.sheet.proofs.Within.{Clear, passed_on, over_now, too_deep, one_too_many, too_wide_lem, clears, goes_on, none_inside, ends_bad, kids_passed}
+use Rattle.ir.proofs.Exits.{exit}
+use Rattle.sheet.proofs.Within.{Clear, over_now, too_deep, one_too_many, too_wide_lem, clears, goes_on, none_inside, ends_bad, kids_passed}
 use Rattle.sheet.proofs.limits.+limits.Goals as goal
 use Rattle.sheet.proofs.limits.+limits.Goals.{Else-too_wide, then-depth-gt-MOST_DEPTH-via-then-depth-gt-MOST_DEPTH, then-depth-gt-MOST_DEPTH-via-else-depth-gt-MOST_DEPTH+then-too_many, then-depth-gt-MOST_DEPTH-via-else-depth-gt-MOST_DEPTH+else-too_many+then-too_wide}
 
@@ -34,8 +35,7 @@ limits-requires t c =
 pub returns-in_err-limits : goal.returns-in_err-limits
 unfolding limits_of
 returns-in_err-limits t c =
-    passed_on c.from_residual.result c.from_residual.ensures
-    ∙ ends_bad (cleared (goal.at.returns-in_err-limits t c).Else-too_wide) c.body_of-body.ensures (told limits_of c.in_err-limits.was c.limits.ensures)
+    rw (exit c.from_residual.ensures.1) (ends_bad (cleared (goal.at.returns-in_err-limits t c).Else-too_wide) c.body_of-body.ensures (told limits_of c.in_err-limits.was c.limits.ensures))
 
 pub loop-place-preserved-in_ok-limits : goal.loop-place-preserved-in_ok-limits
 unfolding limits_of

@@ -2,5 +2,5 @@
 use Rattle.sheet.proofs.Nodes.{known}
 use Rattle.sheet.proofs.places.kind_of.Goals as goal
 
-pub unreachable-requires : goal.unreachable-requires
-unreachable-requires c = known c.requires c.read_u16.ensures c.in-Err.ensures
+pub unwrap-requires : goal.unwrap-requires
+unwrap-requires c = known c.requires c.read_u16.ensures _ c.try_from.ensures

@@ -1,15 +1,16 @@
 -- `sheet::records::records`: each record's way through the code, by `Checks`. Assumes nothing.
-use Rattle.std.proofs.Common.{◌∙◌, arith}
+use Rattle.std.proofs.Common.{arith}
 use Rattle.definitions.proofs.Results.{told}
 use Rattle.sheet.specs.Forms.{form_of}
-use Rattle.sheet.proofs.Checks.{passed_on, over, not_there, inside, goes_on, ends_bad, childless}
+use Rattle.ir.proofs.Exits.{exit}
+use Rattle.sheet.proofs.Checks.{over, not_there, inside, goes_on, ends_bad, childless}
 use Rattle.sheet.proofs.records.+records.Goals as goal
 use Rattle.sheet.proofs.records.+records.Goals.{then-next+in_ok-records, else-next+else-not-may_end}
 
 pub returns-in_err-next : goal.returns-in_err-next
 unfolding form_of
 returns-in_err-next t c =
-    passed_on c.from_residual.result c.from_residual.ensures ∙ not_there c.loop-place.invariant c.loop-place-test.true c.in_err-next.ensures.is c.in_err-next.ensures.place
+    rw (exit c.from_residual.ensures.1) (not_there c.loop-place.invariant c.loop-place-test.true c.in_err-next.ensures.is c.in_err-next.ensures.place)
 
 pub records-requires : goal.records-requires
 records-requires t c =
@@ -19,8 +20,7 @@ records-requires t c =
 pub returns-in_err-records : goal.returns-in_err-records
 unfolding form_of
 returns-in_err-records t c =
-    passed_on c.from_residual-in_err-records.result c.from_residual-in_err-records.ensures
-    ∙ ends_bad c.loop-place.invariant c.loop-place-test.true _ _ c.in_ok-next.ensures.is (told form_of c.in_err-records.was c.records.ensures)
+    rw (exit c.from_residual-in_err-records.ensures.1) (ends_bad c.loop-place.invariant c.loop-place-test.true _ _ c.in_ok-next.ensures.is (told form_of c.in_err-records.was c.records.ensures))
 
 pub returns-then-not-may_end : goal.returns-then-not-may_end
 unfolding form_of

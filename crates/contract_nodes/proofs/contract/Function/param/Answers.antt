@@ -1,4 +1,4 @@
-use mathlib.Core.Path.{refl, sym, ◌∙◌, subst}
+use mathlib.Core.Path.{refl, sym, subst}
 use mathlib.Core.List.{List}
 use Prim.Native.Nat.{ℕ, ◌+◌, ◌*◌, ◌≤◌, ◌<◌}
 use native.Mathlib.Omega.{arith}
@@ -7,7 +7,6 @@ use Rattle.definitions.specs.Ast.{Param}
 use Rattle.definitions.specs.Fields.{le}
 use Rattle.contract_nodes.specs.Nodes.{function_in, param_is}
 use Rattle.contract_nodes.specs.declared.contract.Function.{Function}
-use Rattle.contract_nodes.specs.declared.contract.Param.{Param as Code}
 use Rattle.contract_nodes.proofs.Standing.{ready}
 use Rattle.contract_nodes.proofs.Steps.{param_at, params_count}
 use Rattle.contract_nodes.proofs.Tops.{FunctionAt, function_at_lem}
@@ -27,24 +26,17 @@ room_of f i h =
     let b : i < le 2 f.contract.sheet.now (f.at + 12) = omega (arith, h, params_count a) in
     record { at = a; below = b; few = omega (arith, b, a.few); room = omega (arith, b, a.fits, a.inside); short = f.contract.passed.short }
 
-pub overflow_mul-place : goal.overflow_mul-place
-overflow_mul-place c = let r = room_of c.args.self c.args.i c.requires in omega (arith, r.few)
+pub overflow_mul-i : goal.overflow_mul-i
+overflow_mul-i c = let r = room_of c.args.self c.args.i c.requires in record { fits = omega (arith, r.few) }
 
-pub overflow_add-place-2 : goal.overflow_add-place-2
-overflow_add-place-2 c = let r = room_of c.args.self c.args.i c.requires in omega (arith, r.room, r.short)
+pub overflow_add-self-2 : goal.overflow_add-self-2
+overflow_add-self-2 c = let r = room_of c.args.self c.args.i c.requires in record { fits = omega (arith, r.room, r.short) }
 
-pub read_u16-requires : goal.read_u16-requires
-read_u16-requires c = let r = room_of c.args.self c.args.i c.requires in omega (arith, r.room)
-
-pub overflow_add-place-3 : goal.overflow_add-place-3
-overflow_add-place-3 c = let r = room_of c.args.self c.args.i c.requires in omega (arith, r.room, r.short)
-
-pub read_u16-requires-2 : goal.read_u16-requires-2
-read_u16-requires-2 c = let r = room_of c.args.self c.args.i c.requires in omega (arith, r.room)
+pub new-requires : goal.new-requires
+new-requires c = let r = room_of c.args.self c.args.i c.requires in omega (arith, r.room)
 
 pub returns : goal.returns
 returns c =
     let r = room_of c.args.self c.args.i c.requires in
-    let p : Code = record { name = c.new.result; ty = c.new-2.result } in
-    subst (λ (ps : List Param). param_is p ps c.args.i) (sym r.at.params)
-    (param_at c.args.self.contract.sheet.now (c.args.self.at + 14) _ c.args.i p r.below refl (c.new.ensures ∙ c.read_u16.ensures) (c.new-2.ensures ∙ c.read_u16-2.ensures))
+    subst (λ (ps : List Param). param_is c.new.result ps c.args.i) (sym r.at.params)
+    (param_at c.args.self.contract.sheet.now (c.args.self.at + 14) _ c.args.i c.new.result r.below refl c.new.ensures.0 c.new.ensures.1)

@@ -1,11 +1,12 @@
 use mathlib.Core.Path.{refl, sym, ◌∙◌}
+use Prim.Native.Nat.{◌-◌}
 use native.Mathlib.Omega.{arith}
 use Rattle.definitions.specs.Ast.{fcons}
 use Rattle.contract_nodes.specs.Ready.{fields_from}
+use Rattle.contract_nodes.specs.declared.expr.FieldInits.{FieldInits}
 use Rattle.contract_nodes.proofs.Standing.{ready_all, stands}
 use Rattle.contract_nodes.proofs.Children.{more, no_more, size_fits, bounds}
-use Rattle.contract_nodes.proofs.Parts.{stop_is}
-use Rattle.contract_nodes.proofs.Steps.{all_from, field_at, first_field, no_field}
+use Rattle.contract_nodes.proofs.Steps.{stepped, goes_on, field_at, first_field, no_field}
 use Rattle.contract_nodes.proofs.expr.FieldInitsIterator.next.Goals as goal
 
 pub returns-then-self-clause-steps : goal.returns-then-self-clause-steps
@@ -24,33 +25,28 @@ pub read-requires : goal.read-requires
 read-requires c = size_fits (more (ready_all c.args.self.now.ready) c.if-self.false).ready
 
 pub invariant_of-self : goal.invariant_of-self
-invariant_of-self c =
-    let l = c.args.self.now in
-    record { ready = all_from (stop_is l.contract.sheet.now l.at c.read.ensures.0) (more (ready_all l.ready) c.if-self.false).rest }
+invariant_of-self c = record { ready = (stepped c.args.self.now.ready c.if-self.false c.read.ensures.0).rest }
 
 pub returns-clause-steps : goal.returns-clause-steps
 returns-clause-steps c =
     let l = c.args.self.now in
-    let m = more (ready_all l.ready) c.if-self.false in
-    let z = stop_is l.contract.sheet.now l.at c.read.ensures.0 in
+    let S = stepped l.ready c.if-self.false c.read.ensures.0 in
     let n = sym (c.new.ensures ∙ c.read_u16.ensures) in
     let v = sym c.new-2.ensures.is in
-    let y = sym z in
+    let y = sym S.next in
     record {
       place = l.at;
-      is = first_field m ∙ λ i. fcons l.at (n i) (v i) (fields_from l.contract.sheet.now (y i) l.end);
+      is = first_field S.first ∙ λ i. fcons l.at (n i) (v i) (fields_from l.contract.sheet.now (y i) l.end);
       sheet = c.new-2.ensures.same_sheet;
       rest_sheet = refl;
-      depth = omega (arith, c.new-2.ensures.depth, (bounds m.ready).deep);
+      depth = omega (arith, c.new-2.ensures.depth, (bounds S.first.ready).deep);
       rest_depth = refl;
       end = refl;
-      less = omega (arith, m.low, z);
-      within = omega (arith, m.high, z);
+      less = S.less;
+      within = S.within;
     }
 
 pub returns-clause-goes : goal.returns-clause-goes
 returns-clause-goes c =
-    let l = c.args.self.now in
-    let m = more (ready_all l.ready) c.if-self.false in
-    let z = stop_is l.contract.sheet.now l.at c.read.ensures.0 in
-    record { on = λ f. (tt, tt, omega (arith, m.low, m.high, z)); keeps = tt; rests = λ f. tt }
+    let S = stepped c.args.self.now.ready c.if-self.false c.read.ensures.0 in
+    goes_on (λ (w : FieldInits). w.end - w.at) (omega (arith, S.less, S.within))

@@ -11,7 +11,7 @@ use Rattle.machine_state.proofs.under_way.UnderWay.go_to.Goals as goal
 pub returns-in_err-block : goal.returns-in_err-block
 returns-in_err-block c =
     nowhere _ _ (sym c.find_block.ensures.is ∙ ap (option_of block_in) (asked_none c.ok_or.ensures.ok_part c.in_err-block.was))
-    (halts_by _ _ c.in_err-block.field-0.0 _ c.from_residual.result c.ok_or.ensures.value c.ok_or.ensures.ok_part c.in_err-block.was c.from_residual.ensures)
+    (halts_by c.ok_or.ensures.value c.ok_or.ensures.ok_part c.in_err-block.was c.from_residual.ensures.1)
 
 pub returns : goal.returns
 returns c =

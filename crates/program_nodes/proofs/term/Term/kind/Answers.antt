@@ -2,7 +2,7 @@
 use native.Mathlib.Omega.{arith}
 use Rattle.format.specs.Kinds.{term_number}
 use Rattle.program_nodes.proofs.Stand.{kept}
-use Rattle.program_nodes.proofs.KindNumbers.{kind_ok}
+use Rattle.program_nodes.proofs.KindNumbers.{kind_ok, kind_is}
 use Rattle.program_nodes.proofs.Walk.{term_kind_alone}
 use Rattle.program_nodes.proofs.Facts.{term_place}
 use Rattle.program_nodes.proofs.term.Term.kind.Goals as goal
@@ -15,3 +15,6 @@ read_u16-requires c = omega (arith, (term_place c.args.self).fits)
 
 pub unwrap-requires : goal.unwrap-requires
 unwrap-requires c = kind_ok term_number _ (rw c.read_u16.ensures at c.try_from.ensures) (term_kind_alone (kept c.args.self.here.0))
+
+pub returns-clause-fits : goal.returns-clause-fits
+returns-clause-fits c = rw (kind_is term_number c.try_from.ensures c.unwrap.ensures, c.read_u16.ensures) (term_place c.args.self).fits
