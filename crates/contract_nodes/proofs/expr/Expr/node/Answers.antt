@@ -1,3 +1,4 @@
+-- `Expr::node`: what an expression of each kind is. Assumes nothing. Arms of one shape have their answers each, as those of `Stmt::node` have.
 use mathlib.Core.Path.{refl, ap, ap₂, sym, ◌∙◌}
 use native.Mathlib.Omega.{arith}
 use Prim.Native.Nat.{◌+◌}

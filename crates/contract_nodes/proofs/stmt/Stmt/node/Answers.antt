@@ -1,3 +1,5 @@
+-- `Stmt::node`: what a statement of each kind is. Assumes nothing. Arms of one shape have their answers each, a line by the arm's lemma (`let_at`, ..): no plainer
+-- by a lemma over the arm, which would leave as many answers with the same arguments.
 use mathlib.Core.Path.{refl, ap, ap₂, sym, ◌∙◌}
 use native.Mathlib.Omega.{arith}
 use Prim.Native.Nat.{◌+◌}
