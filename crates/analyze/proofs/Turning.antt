@@ -1,44 +1,38 @@
 -- The functions of a contract one by one. Assumes nothing.
 use mathlib.Core.Path.{◌≡◌, ap, sym, ◌∙◌}
-use mathlib.Core.List.{List, [], ◌∷◌}
+use mathlib.Core.List.{List, []}
 use Prim.Native.Nat.{ℕ}
-use Rattle.definitions.specs.Answers.{Refusal}
-use Rattle.definitions.specs.Result.{err, ok, ◌>>◌, Done}
-use Rattle.definitions.specs.Ast.{Contract, Function, Stmts}
+use Rattle.definitions.specs.Result.{ok, ◌>>◌, Done}
 use Rattle.definitions.specs.ContractSheet.{read_contract}
-use Rattle.definitions.specs.Ir.{IrType}
-use Rattle.definitions.specs.Sema.{return_type}
-use Rattle.definitions.specs.Analyze.{Env, param_env}
-use Rattle.analyze_walk.specs.Stops.{Checking, check_stmts, check_function, check_functions}
+use Rattle.ir.specs.declared.FunctionId.{FunctionId}
+use Rattle.contract_nodes.specs.Nodes.{function_in}
+use Rattle.contract_nodes.specs.declared.contract.Function.{Function}
+use Rattle.contract_lookup.specs.Walked.{left_in, NextFunction}
+use Rattle.contract_lookup.specs.declared.items.FunctionIter.{FunctionIter}
+use Rattle.contract_lookup.specs.declared.items.Functions.{Functions}
+use Rattle.analyze_env.specs.Names.{Names}
+use Rattle.analyze.specs.Whole.{Empty}
+use Rattle.analyze_walk.specs.Stops.{Checking, check_function, check_functions}
 
--- ONE FUNCTION, by its statements
-pub by_body : (K : Contract) (F : Function) {ret : IrType} {body : Stmts} {env : Env} {r : Checking Env} → ret ≡ return_type F.return_type → body ≡ F.body → env ≡ param_env F.params [] → r ≡ check_stmts K ret body env → (r >> ok tt) ≡ check_function K F
-unfolding check_function
-by_body K F {ret} {body} {env} {r} a b e w =
-    ap (λ (r : Checking Env). r >> ok tt) (w ∙ (ap (λ (t : IrType). check_stmts K t body env) a ∙ (ap (λ (ts : Stmts). check_stmts K (return_type F.return_type) ts env) b ∙ ap (check_stmts K (return_type F.return_type) F.body) e)))
+-- THE LOOP: what is left of the functions of the sheet s gives what all of them give, R; no name is known
+pub record Going (s : List ℕ) (R : Checking Done) (env : Names) (w : FunctionIter) : Type 0 where
+  pub left : check_functions (read_contract s) (left_in w) ≡ R
+  pub same : w.functions.now.contract.sheet.now ≡ s
+  pub empty : Empty s env
 
--- THE LOOP: what is left of the functions gives what all of them give
-module _ (K : Contract) {left : List Function} {R : Checking Done} (is : check_functions K left ≡ R) where
-  module _ {F : Function} {rest : List Function} (first : left ≡ F ∷ rest) where
-    of_first : Checking Done → Checking Done
-    of_first r = r >> check_functions K rest
-
-    opened : {r : Checking Done} → r ≡ check_function K F → of_first r ≡ R
-    unfolding check_functions of_first
-    opened w = ap of_first w ∙ (ap (check_functions K) (sym first) ∙ is)
-
-    pub refused : {x : Refusal} → err x ≡ check_function K F → err x ≡ R
-    unfolding of_first
-    refused w = opened w
-
-    pub passed : {d : Done} → ok d ≡ check_function K F → check_functions K rest ≡ R
-    unfolding of_first
-    passed w = opened w
-
-  pub all_passed : left ≡ [] → ok tt ≡ R
+module _ {s : List ℕ} {R : Checking Done} {env : Names} {w : FunctionIter} (g : Going s R env w) where
+  pub ends : left_in w ≡ [] → ok tt ≡ R
   unfolding check_functions
-  all_passed none = ap (check_functions K) (sym none) ∙ is
+  ends h = ap (check_functions (read_contract s)) (sym h) ∙ g.left
 
--- a function of the same sheet
-pub of_sheet : {s s₁ : List ℕ} (F : Function) {r : Checking Done} → s₁ ≡ s → r ≡ check_function (read_contract s₁) F → r ≡ check_function (read_contract s) F
-of_sheet F same w = w ∙ ap (λ (s : List ℕ). check_function (read_contract s) F) same
+  module _ {rest : FunctionIter} {i : FunctionId} {f : Function} (first : NextFunction w rest i f) where
+    pub walked : {r : Checking Done} → r ≡ check_function (read_contract s) (function_in f) → (r >> check_functions (read_contract s) (left_in rest)) ≡ R
+    unfolding check_functions
+    walked v = ap (λ (r : Checking Done). r >> check_functions (read_contract s) (left_in rest)) v ∙ (ap (check_functions (read_contract s)) (sym first.is) ∙ g.left)
+
+    pub one_more : {later : Names} → ok tt ≡ check_function (read_contract s) (function_in f) → Empty s later → Going s R later rest
+    one_more v e = record {
+      left = walked v;
+      same = ap (λ (fs : Functions). fs.contract.sheet.now) first.same ∙ g.same;
+      empty = e;
+    }

@@ -6,10 +6,10 @@ ghost use Rattle.definitions.specs.Answers.{analyze_sheet};
 ghost use Rattle.definitions.specs.Analyze.{param_env};
 ghost use Rattle.ir.specs.Answers.{done_of};
 ghost use Rattle.contract_nodes.specs.Nodes.{contract_in, function_in};
-ghost use Rattle.analyze_walk.specs.Stops.{check_function, check_functions};
+ghost use Rattle.analyze_walk.specs.Stops.{check_function};
 ghost use Rattle.analyze_state.specs.Errors.{error_of};
-ghost use Rattle.analyze_state.specs.State.{sheet_of, contract_of, OfSheet};
-ghost use Rattle.analyze.specs.Whole.{answer_of, Empty};
+ghost use Rattle.analyze_state.specs.State.{sheet_of, analyzed_contract, OfSheet};
+ghost use Rattle.analyze.specs.Whole.{answer_of, check_bodies, Empty};
 
 use analyze_env::{ALL, Entry, Env, FEW, Link, Ty};
 use analyze_state::{Analyzer, SemaError};
@@ -64,10 +64,11 @@ fn insert_params(env: &mut Env, f: Function)
 
 // A function of the contract. No name is known before it, and none behind it.
 // `OfSheet`: as in analyze_exprs.
+#[tactic(auto, unfolding(analyze_walk::specs::Stops::check_function))]
 fn analyze_function(a: Analyzer, env: &mut Env, f: Function) -> Result<(), SemaError>
     requires of_sheet { OfSheet a f.contract }
     requires empty { Empty (sheet_of a) env.old }
-    ensures is { done_of error_of result ≡ check_function (contract_of a.entry) (function_in f.entry) }
+    ensures is { done_of error_of result ≡ check_function (analyzed_contract a.entry) (function_in f.entry) }
     ensures empty { OnOk result (Empty (sheet_of a.entry) env.new) }
 {
     insert_params(env, f);
@@ -85,7 +86,7 @@ fn analyze_function(a: Analyzer, env: &mut Env, f: Function) -> Result<(), SemaE
 // All functions, in order.
 fn analyze_functions(contract: Contract, env: &mut Env) -> Result<(), SemaError>
     requires { Empty contract.sheet.now env.old }
-    ensures { done_of error_of result ≡ check_functions (contract_in contract.entry) (contract_in contract.entry).functions }
+    ensures { done_of error_of result ≡ check_bodies (contract_in contract.entry) }
 {
     let structs = Structs::new(contract);
     let functions = Functions::new(contract);
@@ -106,7 +107,7 @@ fn analyze_with<const NAMES: usize, const CHAINS: usize>(
 ) -> Result<(), SemaError>
     requires names { (length contract.sheet.now + 256 ≤ 16 * NAMES) × (NAMES ≤ 65535) }
     requires chains { (1024 ≤ CHAINS) × (CHAINS ≤ 65536) }
-    ensures { done_of error_of result ≡ check_functions (contract_in contract.entry) (contract_in contract.entry).functions }
+    ensures { done_of error_of result ≡ check_bodies (contract_in contract.entry) }
 {
     let mut entries = [Entry::BLANK; NAMES];
     let mut heads = [Link::NONE; CHAINS];
@@ -123,7 +124,7 @@ const MOST_NAMES: usize = 2064;
 
 // The functions of a contract.
 fn analyze_contract(contract: Contract) -> Result<(), SemaError>
-    ensures { done_of error_of result ≡ check_functions (contract_in contract.entry) (contract_in contract.entry).functions }
+    ensures { done_of error_of result ≡ check_bodies (contract_in contract.entry) }
 {
     if contract.sheet.len() <= SHORT {
         return analyze_with::<SHORT_NAMES, FEW>(contract);

@@ -11,7 +11,7 @@ use lib.Seq.{get_or-set_same, get_or-set_other, get_or-append_seam, append_snoc}
 use borrow.Rule.Slice.PartMut.{mid_len}
 use Rattle.std.proofs.lemmas.List.{get_or-take, get_or-drop}
 use borrow.Author.Tests.{eq-eqb, ne_eqb}
-use Rattle.definitions.specs.Analyze.{Ty, Env, get, insert}
+use Rattle.definitions.specs.Analyze.{Ty, Env, get}
 use Rattle.definitions.proofs.Results.{by_eq}
 use Rattle.analyze_env.specs.Types.{as_ty}
 use Rattle.analyze_env.specs.Entries.{no_link, blank, entry_at, position_of, env_of, chain_of, chain_at, newest, Known}
@@ -137,13 +137,7 @@ stored heads b v right at_b others i h =
     (λ q. rw q (ap (λ (x : Link). x.0) (get_or-set_same heads b v no_link (omega arith)) ∙ at_b))
     (λ u. ap (λ (x : Link). x.0) (get_or-set_other heads b i v no_link u) ∙ others i h u)
 
--- one name more: what was known before is known as it was
-pub record Inserted (l : List Entry) (heads : List Link) (n name : ℕ) (t : Ty) (l₁ : List Entry) (heads₁ : List Link) : Type 0 where
-  pub known : Known l₁ heads₁ (n + 1)
-  pub more : env_of l₁ (n + 1) ≡ insert name t (env_of l n)
-  pub long : length l₁ ≡ length l
-
--- ONE MORE
+-- ONE MORE: what was known before is known as it was
 module _ {l : List Entry} {heads : List Link} {n name : ℕ} {t : Ty} {b : ℕ} (e : Entry) (to : Link) (K : Known l heads n) (room : n < length l)
     (chain-is : (b ≡ chain_of (length heads) name) × (b < length heads)) (entry-is : (e.name.0 ≡ name) × (e.link.0 ≡ (get_or heads b no_link).0) × (as_ty e.ty ≡ t)) (to-is : to.0 ≡ n + 1) where
   here : entry_at (set l n e) n ≡ e
@@ -166,19 +160,18 @@ module _ {l : List Entry} {heads : List Link} {n name : ℕ} {t : Ty} {b : ℕ} 
       let v : i < n = omega arith in
       rw (below_set l n e i v, newest_set l n e (length heads) (chain_at (length heads) l i) i (omega arith)) (K.link i v))
 
-  pub inserted : Inserted l heads n name t (set l n e) (set heads b to)
-  unfolding env_of
-  inserted = record {
-    known = record {
-      room = rw length-set (omega arith);
-      short = rw length-set K.short;
-      wide = rw length-set K.wide;
-      head = simp length-set head_after;
-      link = simp length-set link_after;
-    };
-    more = rw (add-one, here, entry-is.0, entry-is.2, env_set l n e n (omega arith));
-    long = rw length-set;
+  pub one_more : Known (set l n e) (set heads b to) (n + 1)
+  one_more = record {
+    room = rw length-set (omega arith);
+    short = rw length-set K.short;
+    wide = rw length-set K.wide;
+    head = simp length-set head_after;
+    link = simp length-set link_after;
   }
+
+  pub one_named : {v : Names} → record { names = env_of l n; room = length l } ≡ v → record { names = env_of (set l n e) (n + 1); room = length (set l n e) } ≡ named name t v
+  unfolding env_of
+  one_named view-is = rw (← view-is, length-set, add-one, here, entry-is.0, entry-is.2, env_set l n e n (omega arith))
 
 -- ONE LESS
 module _ {l : List Entry} {heads : List Link} {n b : ℕ} {e : Entry} (K : Known l heads (suc n)) (here : entry_at l n ≡ e) (chain-is : (b ≡ chain_of (length heads) e.name.0) × (b < length heads)) where
@@ -262,12 +255,9 @@ module _ (l : List Entry) (n : ℕ) {v : Names} (view-is : record { names = env_
   pub reaches : {m : ℕ} → m ≤ length v.names → m ≤ n
   reaches h = omega (arith, h, count_is)
 
-  pub room_is : length l ≡ v.room
-  room_is = ap (λ (w : Names). w.room) view-is
+  pub has_room : length v.names < v.room → n < length l
+  has_room h = omega (arith, h, count_is, ap (λ (w : Names). w.room) view-is)
 
-  pub cut : (m : ℕ) → m ≤ n → record { names = env_of l m; room = length l } ≡ truncated m v
+  pub cut : (m : ℕ) → m ≤ length v.names → record { names = env_of l m; room = length l } ≡ truncated m v
   cut m h =
-      rw (← view-is, env_length l n) (ap (λ (es : Env). record { names = es; room = length l }) (sym (env_drop l m (n - m) n (omega arith))))
-
-  pub more_is : {heads : List Link} {l₁ : List Entry} {heads₁ : List Link} {name : ℕ} {t : Ty} → Inserted l heads n name t l₁ heads₁ → record { names = env_of l₁ (n + 1); room = length l₁ } ≡ named name t v
-  more_is I = rw (← view-is, I.more, I.long)
+      rw (← view-is, env_length l n) (ap (λ (es : Env). record { names = es; room = length l }) (sym (env_drop l m (n - m) n (omega (arith, reaches h)))))

@@ -31,7 +31,8 @@ pub fn differs(a: Ty, b: Ty) -> bool
     a != b && a != Ty::Unknown && b != Ty::Unknown
 }
 
-// The position of an entry, or none. Zeros are none, so that new heads are cleared memory; an Option of the position has four bytes.
+// The position of an entry, or none. Zeros are none, so that new heads are cleared memory; an Option of the position has four bytes, and
+// would double the heads, 131 kB of stack.
 #[derive(Clone, Copy, Debug, PartialEq, Eq)]
 pub struct Link(u16);
 
@@ -64,13 +65,14 @@ pub struct Entry {
 impl Entry {
     // What an entry is before it is written: zeros.
     pub const BLANK: Entry = Entry {
-        name: Name(0),
+        name: Name::EMPTY,
         link: Link::NONE,
         ty: Ty::Unknown,
     };
 }
 
 // The chain of a name.
+#[tactic(auto, using(std::proofs::lemmas::Bool::Decides::nat_tests), unfolding(crate::specs::Entries::chain_of))]
 fn chain_of(name: Name, chains: usize) -> usize
     requires { 1024 ≤ chains }
     ensures { (result ≡ chain_of chains name.0) × (result < chains) }
@@ -107,6 +109,7 @@ impl<'a> Model for Env<'a> {
 impl<'a> Env<'a> {
     ghost use Rattle.analyze_env.specs.Names.{Names, named, truncated};
 
+    #[tactic(auto, unfolding(crate::specs::Entries::env_of))]
     pub fn new(entries: &'a mut [Entry], heads: &'a mut [Link]) -> Env<'a>
         requires heads_are_none { heads.old ≡ replicate (length heads.old) no_link }
         requires sizes { (length entries.old ≤ 65535) × (1024 ≤ length heads.old) }

@@ -1,6 +1,6 @@
 -- Calls, over the definitions alone: whether the arguments fit is one Bool, which is carried on an argument at a time. Assumes nothing.
-use mathlib.Core.Path.{◌≡◌, refl, ap, ◌∙◌}
-use mathlib.Core.Bool.{Bool, true, false, not, ◌&&◌}
+use mathlib.Core.Path.{◌≡◌, refl, ap, sym, ◌∙◌}
+use mathlib.Core.Bool.{Bool, true, false, not, ◌&&◌, and_assoc, and-true}
 use mathlib.Core.List.{List, [], ◌∷◌, ◌++◌}
 use mathlib.Core.Option.{Option, none, some}
 use Prim.Native.Nat.{ℕ}
@@ -30,14 +30,6 @@ called p none acts = refl
 called p (some (params, ret)) acts = ap (λ (A : Checking Done). check (eqb (length params) (length acts)) (sema p 10) >> (A >> ok (known ret))) (agreed p params acts)
 
 -- ONE ARGUMENT MORE
-and_assoc : (a b c : Bool) → (a && (b && c)) ≡ ((a && b) && c)
-and_assoc true b c = refl
-and_assoc false b c = refl
-
-pub and_true : (a : Bool) → (a && true) ≡ a
-and_true true = refl
-and_true false = refl
-
 pub no_argument : (params : List IrType) → fitting params [] ≡ true
 unfolding fitting
 no_argument [] = refl
@@ -46,8 +38,8 @@ no_argument (t ∷ ts) = refl
 pub one_more : (params : List IrType) (acts : List Ty) (t : Ty) → fitting params (acts ++ (t ∷ [])) ≡ (fitting params acts && not (differs (nth_ty params (length acts)) t))
 unfolding fitting
 one_more [] acts t = refl
-one_more (e ∷ es) [] t = ap (λ (b : Bool). not (differs (known e) t) && b) (no_argument es) ∙ and_true (not (differs (known e) t))
-one_more (e ∷ es) (a ∷ acts) t = ap (λ (b : Bool). not (differs (known e) a) && b) (one_more es acts t) ∙ and_assoc (not (differs (known e) a)) (fitting es acts) (not (differs (nth_ty es (length acts)) t))
+one_more (e ∷ es) [] t = ap (λ (b : Bool). not (differs (known e) t) && b) (no_argument es) ∙ and-true (not (differs (known e) t))
+one_more (e ∷ es) (a ∷ acts) t = ap (λ (b : Bool). not (differs (known e) a) && b) (one_more es acts t) ∙ sym (and_assoc (not (differs (known e) a)) (fitting es acts) (not (differs (nth_ty es (length acts)) t)))
 
 -- the same of what is called
 pub no_argument_of : (sig : Option Signature) → params_fitting sig [] ≡ true

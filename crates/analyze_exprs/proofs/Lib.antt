@@ -1,4 +1,3 @@
 pub mod Fitting
-pub mod FieldSteps
 pub mod CalleeSteps
 pub mod Turns

@@ -20,30 +20,15 @@ use Rattle.analyze_exprs.proofs.Fitting.{called, no_argument_of, one_more_of}
 
 -- A LITERAL: its struct, and then its fields
 module _ (K : Contract) (env : Env) (p n : ℕ) (fs : FieldInits) where
-  of_struct : Option (ℕ × Struct) → Checking Ty
-  of_struct o = do
-    (_, decl) ← ok_or_else o (sema p 9)
-    check_fields K env p decl.fields fs
-    ok (known (IrType.Struct n))
-
-  with_fields : Struct → Checking Ty
+  abbrev with_fields : Struct → Checking Ty
   with_fields decl = check_fields K env p decl.fields fs >> ok (known (IrType.Struct n))
 
-  both : (o : Option (ℕ × Struct)) → (ok_or_else (second o) (sema p 9) >>= with_fields) ≡ of_struct o
-  unfolding of_struct with_fields
+  both : (o : Option (ℕ × Struct)) → (ok_or_else (second o) (sema p 9) >>= with_fields) ≡ (ok_or_else o (sema p 9) >>= λ (d : ℕ × Struct). with_fields d.1)
   both none = refl
   both (some d) = refl
 
-  looked_up : {r : Checking Struct} → r ≡ ok_or_else (second (struct_named K n)) (sema p 9) → (r >>= with_fields) ≡ check_literal K env p n fs
-  unfolding of_struct
-  looked_up h = ap (λ (r : Checking Struct). r >>= with_fields) h ∙ both (struct_named K n)
-
-  pub undefined : {x : Refusal} → err x ≡ ok_or_else (second (struct_named K n)) (sema p 9) → err x ≡ check_literal K env p n fs
-  undefined h = looked_up h
-
-  pub defined : {decl : Struct} → ok decl ≡ ok_or_else (second (struct_named K n)) (sema p 9) → (check_fields K env p decl.fields fs >> ok (known (IrType.Struct n))) ≡ check_literal K env p n fs
-  unfolding with_fields
-  defined h = looked_up h
+  pub struct_is : {r : Checking Struct} → r ≡ ok_or_else (second (struct_named K n)) (sema p 9) → (r >>= with_fields) ≡ check_literal K env p n fs
+  struct_is h = ap (λ (r : Checking Struct). r >>= with_fields) h ∙ both (struct_named K n)
 
 -- the first field, and then the rest
 module _ (K : Contract) (env : Env) (p : ℕ) (sf : List Param) (k : Checking Ty) where
@@ -65,51 +50,36 @@ module _ (K : Contract) (env : Env) (p : ℕ) (sf : List Param) (k : Checking Ty
     opened = sym (field_then n (check_fields K env p sf fs) (check_expr K env e)) ∙ (ap (λ (fs : FieldInits). check_fields K env p sf fs >> k) (sym h) ∙ is)
 
     -- given what came of its value, and of the field
-    given : Checking Ty → Checking Ty
-    given r = (r >>= field_check p sf n) >> (check_fields K env p sf fs >> k)
+    abbrev of_value : Checking Ty → Checking Ty
+    of_value r = (r >>= field_check p sf n) >> (check_fields K env p sf fs >> k)
 
-    pub value_refused : {x : Refusal} → err x ≡ check_expr K env e → err x ≡ R
-    unfolding given
-    value_refused w = ap given w ∙ opened
+    pub value_is : {r : Checking Ty} → r ≡ check_expr K env e → of_value r ≡ R
+    value_is w = ap of_value w ∙ opened
 
-    module _ {t : Ty} (w : ok t ≡ check_expr K env e) where
-      checked : {r : Checking Done} → r ≡ field_check p sf n t → (r >> (check_fields K env p sf fs >> k)) ≡ R
-      unfolding given
-      checked v = ap (λ (r : Checking Done). r >> (check_fields K env p sf fs >> k)) v ∙ (ap given w ∙ opened)
-
-      pub field_refused : {x : Refusal} → err x ≡ field_check p sf n t → err x ≡ R
-      field_refused v = checked v
-
-      pub field_passed : ok tt ≡ field_check p sf n t → (check_fields K env p sf fs >> k) ≡ R
-      field_passed v = checked v
+    pub field_is : {t : Ty} {r : Checking Done} → ok t ≡ check_expr K env e → r ≡ field_check p sf n t → (r >> (check_fields K env p sf fs >> k)) ≡ R
+    field_is w v = ap (λ (r : Checking Done). r >> (check_fields K env p sf fs >> k)) v ∙ value_is w
 
   pub no_fields : {all : FieldInits} {R : Checking Ty} → all ≡ fnil → (check_fields K env p sf all >> k) ≡ R → k ≡ R
   unfolding check_expr
   no_fields h is = ap (λ (fs : FieldInits). check_fields K env p sf fs >> k) (sym h) ∙ is
 
 -- AN OPERATOR, given what came of its operands
-both_of : ℕ → Ty → Checking Ty → Checking Ty
-both_of p l r = do
-  t ← r
-  refuse_if (differs l t) (sema p 13)
-  ok l
+module _ (K : Contract) (env : Env) (p : ℕ) (op : BinOp) (left right : Expr) where
+  abbrev both_of : Ty → Checking Ty → Checking Ty
+  both_of l r = do
+    t ← r
+    refuse_if (differs l t) (sema p 13)
+    ok l
 
-pub left_refused : (K : Contract) (env : Env) (p : ℕ) (op : BinOp) (left right : Expr) {x : Refusal} → err x ≡ check_expr K env left → err x ≡ check_expr K env (Expr.Binary p op left right)
-unfolding check_expr both_of
-left_refused K env p op left right w = ap (λ (r : Checking Ty). r >>= λ l. both_of p l (check_expr K env right)) w
+  pub left_is : {r : Checking Ty} → r ≡ check_expr K env left → (r >>= λ l. both_of l (check_expr K env right)) ≡ check_expr K env (Expr.Binary p op left right)
+  unfolding check_expr
+  left_is w = ap (λ (r : Checking Ty). r >>= λ l. both_of l (check_expr K env right)) w
 
-module _ (K : Contract) (env : Env) (p : ℕ) (op : BinOp) (left right : Expr) {l : Ty} (w : ok l ≡ check_expr K env left) where
-  came : {r : Checking Ty} → r ≡ check_expr K env right → both_of p l r ≡ check_expr K env (Expr.Binary p op left right)
-  unfolding check_expr both_of
-  came v = ap (both_of p l) v ∙ ap (λ (r : Checking Ty). r >>= λ l. both_of p l (check_expr K env right)) w
+  pub right_is : {l : Ty} {r : Checking Ty} → ok l ≡ check_expr K env left → r ≡ check_expr K env right → both_of l r ≡ check_expr K env (Expr.Binary p op left right)
+  right_is {l} w v = ap (both_of l) v ∙ left_is w
 
-  pub right_refused : {x : Refusal} → err x ≡ check_expr K env right → err x ≡ check_expr K env (Expr.Binary p op left right)
-  unfolding both_of
-  right_refused v = came v
-
-  pub both_typed : {r : Ty} → ok r ≡ check_expr K env right → {b : Bool} → b ≡ differs l r → (refuse_if b (sema p 13) >> ok l) ≡ check_expr K env (Expr.Binary p op left right)
-  unfolding both_of
-  both_typed v q = rw q (came v)
+  pub both_typed : {l t : Ty} → ok l ≡ check_expr K env left → ok t ≡ check_expr K env right → {b : Bool} → b ≡ differs l t → (refuse_if b (sema p 13) >> ok l) ≡ check_expr K env (Expr.Binary p op left right)
+  both_typed w v q = rw q (right_is w v)
 
 -- THE ARGUMENTS that are left, after those whose types are known; then F of all the types
 module _ (K : Contract) (env : Env) (F : List Ty → Checking Ty) where
@@ -125,16 +95,16 @@ module _ (K : Contract) (env : Env) (F : List Ty → Checking Ty) where
   after_type acts t (ok ts) = ap F (sym (append_assoc acts (t ∷ []) ts))
 
   -- the first of them, given what came of it
-  first_then : Exprs → List Ty → Checking Ty → Checking Ty
+  abbrev first_then : Exprs → List Ty → Checking Ty → Checking Ty
   first_then es acts r = r >>= (λ t. check_arguments K env es >>= λ ts. ok (t ∷ ts)) >>= λ ts. F (acts ++ ts)
 
-  go_type : (e : Expr) (es : Exprs) (acts : List Ty) (t : Ty) → ok t ≡ check_expr K env e → go_on (econs e es) acts ≡ go_on es (acts ++ (t ∷ []))
-  unfolding go_on check_expr first_then
-  go_type e es acts t h = ap (first_then es acts) (sym h) ∙ after_type acts t (check_arguments K env es)
+  go_first : (e : Expr) (es : Exprs) (acts : List Ty) {r : Checking Ty} → r ≡ check_expr K env e → first_then es acts r ≡ go_on (econs e es) acts
+  unfolding go_on check_expr
+  go_first e es acts w = ap (first_then es acts) w
 
-  go_refused : (e : Expr) (es : Exprs) (acts : List Ty) (x : Refusal) → err x ≡ check_expr K env e → go_on (econs e es) acts ≡ err x
-  unfolding go_on check_expr first_then
-  go_refused e es acts x h = ap (first_then es acts) (sym h)
+  go_type : (e : Expr) (es : Exprs) (acts : List Ty) (t : Ty) → ok t ≡ check_expr K env e → go_on es (acts ++ (t ∷ [])) ≡ go_on (econs e es) acts
+  unfolding go_on
+  go_type e es acts t w = sym (after_type acts t (check_arguments K env es)) ∙ go_first e es acts w
 
 -- THE LOOP: `es` are the arguments that are left, `acts` are the types of the n before them, which fit or do not, and it all gives R
 pub record Going (K : Contract) (env : Env) (p : ℕ) (sig : Option Signature) (R : Checking Ty) (es : Exprs) (n : ℕ) (flag : Bool) : Type 0 where
@@ -164,9 +134,9 @@ module _ {K : Contract} {env : Env} {p : ℕ} {sig : Option Signature} {R : Chec
       acts = g.acts ++ (t ∷ []);
       long = simp length-append (ap (λ (m : ℕ). m + 1) g.long);
       fit = rw (d, x, g.fit, sym g.long) (sym (one_more_of sig g.acts t));
-      is = sym (go_type K env (call p sig) e rest g.acts t w) ∙ reached;
+      is = go_type K env (call p sig) e rest g.acts t w ∙ reached;
     }
 
     -- it is refused
     pub refuses : {x : Refusal} → err x ≡ check_expr K env e → err x ≡ R
-    refuses {x} w = sym (go_refused K env (call p sig) e rest g.acts x w) ∙ reached
+    refuses w = go_first K env (call p sig) e rest g.acts w ∙ reached

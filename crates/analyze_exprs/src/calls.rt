@@ -5,7 +5,7 @@ ghost use Rattle.ir.specs.Answers.{result_of};
 ghost use Rattle.ir.specs.Types.{as_type};
 ghost use Rattle.analyze_env.specs.Types.{as_ty};
 ghost use Rattle.analyze_state.specs.Errors.{error_of};
-ghost use Rattle.analyze_state.specs.State.{contract_of};
+ghost use Rattle.analyze_state.specs.State.{analyzed_contract};
 ghost use Rattle.analyze_exprs.specs.Calls.{callee_in, param_ty, finished_with, finished};
 
 use analyze_env::Ty;
@@ -23,7 +23,7 @@ pub(crate) enum Callee<'a> {
 
 // The built-in functions come before those of the contract.
 pub(crate) fn callee_named<'a>(a: &Analyzer<'a>, name: Name) -> Option<Callee<'a>>
-    ensures { callee_in result ≡ signature_named (contract_of a.now) name.0 }
+    ensures { callee_in result ≡ signature_named (analyzed_contract a.now) name.0 }
 {
     match name {
         Name::POSEIDON => Some(Callee::BuiltIn(2)),

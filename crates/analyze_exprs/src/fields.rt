@@ -5,7 +5,7 @@ ghost use Rattle.contract_nodes.specs.Nodes.{struct_in};
 ghost use Rattle.analyze_env.specs.Types.{as_ty};
 ghost use Rattle.analyze_walk.specs.Stops.{access};
 ghost use Rattle.analyze_state.specs.Errors.{error_of};
-ghost use Rattle.analyze_state.specs.State.{contract_of};
+ghost use Rattle.analyze_state.specs.State.{analyzed_contract};
 ghost use Rattle.analyze_exprs.specs.Typed.{field_check};
 
 use analyze_env::{Ty, differs};
@@ -15,8 +15,9 @@ use contract_nodes::Struct;
 use ir::{IrType, Name};
 
 // The type of a field of a value. A struct that is not declared is no error.
+#[tactic(auto, unfolding(analyze_walk::specs::Stops::access, contract_lookup::specs::Answers::field_type_named))]
 pub(crate) fn access(a: &Analyzer, at: usize, field: Name, ty: Ty) -> Result<Ty, SemaError>
-    ensures { result_of error_of as_ty result ≡ access (contract_of a.now) at field.0 (as_ty ty) }
+    ensures { result_of error_of as_ty result ≡ access (analyzed_contract a.now) at field.0 (as_ty ty) }
 {
     let Ty::Known(t) = ty else {
         return Ok(Ty::Unknown);
@@ -33,6 +34,7 @@ pub(crate) fn access(a: &Analyzer, at: usize, field: Name, ty: Ty) -> Result<Ty,
 }
 
 // A field of a literal of a struct, by the type of its value. The literal's place is `at`.
+#[tactic(auto, unfolding(contract_lookup::specs::Answers::field_type_named))]
 pub(crate) fn check_field(of: Struct, at: usize, field: Name, ty: Ty) -> Result<(), SemaError>
     ensures { done_of error_of result ≡ field_check at (struct_in of.entry).fields field.0 (as_ty ty) }
 {

@@ -10,7 +10,7 @@ ghost use Rattle.contract_nodes.specs.Nodes.{expr_in, exprs_in, fields_in};
 ghost use Rattle.analyze_env.specs.Types.{as_ty};
 ghost use Rattle.analyze_walk.specs.Stops.{check_expr};
 ghost use Rattle.analyze_state.specs.Errors.{error_of};
-ghost use Rattle.analyze_state.specs.State.{contract_of, OfSheet};
+ghost use Rattle.analyze_state.specs.State.{analyzed_contract, OfSheet};
 ghost use Rattle.analyze_exprs.specs.Typed.{check_literal, check_call};
 
 use analyze_env::{Env, Ty, differs};
@@ -26,7 +26,7 @@ mod fields; // the fields of a value and of a literal
 #[tactic(auto, unfolding(analyze_walk::specs::Stops::check_expr))]
 pub fn analyze_expr(a: &Analyzer, env: &Env, e: Expr) -> Result<Ty, SemaError>
     requires { OfSheet a.now e.contract }
-    ensures { result_of error_of as_ty result ≡ check_expr (contract_of a.now) env.now.names (expr_in e.entry) }
+    ensures { result_of error_of as_ty result ≡ check_expr (analyzed_contract a.now) env.now.names (expr_in e.entry) }
 {
     match e.node() {
         ExprNode::Int(_) => Ok(Ty::Known(IrType::U64)),
@@ -63,7 +63,7 @@ fn analyze_literal(
     inits: FieldInits,
 ) -> Result<Ty, SemaError>
     requires { OfSheet a.now inits.contract }
-    ensures { result_of error_of as_ty result ≡ check_literal (contract_of a.now) env.now.names at name.0 (fields_in inits.entry) }
+    ensures { result_of error_of as_ty result ≡ check_literal (analyzed_contract a.now) env.now.names at name.0 (fields_in inits.entry) }
 {
     let of = a.structs.named(name).ok_or(SemaError::UndefinedStruct(at))?;
     for init in inits {
@@ -84,7 +84,7 @@ fn analyze_call(
     args: Exprs,
 ) -> Result<Ty, SemaError>
     requires { OfSheet a.now args.contract }
-    ensures { result_of error_of as_ty result ≡ check_call (contract_of a.now) env.now.names at name.0 (exprs_in args.entry) }
+    ensures { result_of error_of as_ty result ≡ check_call (analyzed_contract a.now) env.now.names at name.0 (exprs_in args.entry) }
 {
     let callee = calls::callee_named(a, name);
     let mut fits = true;

@@ -1,4 +1,4 @@
-// The body check's answer as numbers: one place has the number of each case.
+// The body check's answer as the numbers of document 01, for C to read: one place has the number of each case.
 #![tactic(auto)]
 
 ghost use Rattle.std.specs.Prelude.{◌≡◌, [], ◌∷◌};

@@ -3,9 +3,9 @@
 
 ghost use Rattle.std.specs.Prelude.{◌≡◌, IfSome};
 ghost use Rattle.definitions.specs.Ast.{Stmt};
-ghost use Rattle.contract_nodes.specs.Nodes.{expr_in, exprs_in, returned};
+ghost use Rattle.contract_nodes.specs.Nodes.{expr_in, exprs_in, opt_expr_in};
 ghost use Rattle.analyze_walk.specs.Stops.{check_stmt};
-ghost use Rattle.analyze_state.specs.State.{contract_of, ret_of, OfSheet, env_after};
+ghost use Rattle.analyze_state.specs.State.{analyzed_contract, ret_of, OfSheet, env_after};
 ghost use Rattle.analyze_simple.specs.Checked.{value_checked, pair_checked, args_checked};
 
 use analyze_env::{Env, Ty, differs};
@@ -18,7 +18,7 @@ use ir::{IrType, Name};
 // `OfSheet`: as in analyze_exprs.
 pub fn analyze_value(a: &Analyzer, env: &Env, value: Expr) -> Result<(), SemaError>
     requires { OfSheet a.now value.contract }
-    ensures { env_after env.now result ≡ value_checked (contract_of a.now) env.now.names (expr_in value.entry) }
+    ensures { env_after env.now result ≡ value_checked (analyzed_contract a.now) env.now.names (expr_in value.entry) }
 {
     analyze_expr(a, env, value)?;
     Ok(())
@@ -27,7 +27,7 @@ pub fn analyze_value(a: &Analyzer, env: &Env, value: Expr) -> Result<(), SemaErr
 // Two of them: the key and the value of a MappingWrite, the bounds of a For.
 pub fn analyze_pair(a: &Analyzer, env: &Env, first: Expr, second: Expr) -> Result<(), SemaError>
     requires { OfSheet a.now first.contract × OfSheet a.now second.contract }
-    ensures { env_after env.now result ≡ pair_checked (contract_of a.now) env.now.names (expr_in first.entry) (expr_in second.entry) }
+    ensures { env_after env.now result ≡ pair_checked (analyzed_contract a.now) env.now.names (expr_in first.entry) (expr_in second.entry) }
 {
     analyze_expr(a, env, first)?;
     analyze_expr(a, env, second)?;
@@ -37,7 +37,7 @@ pub fn analyze_pair(a: &Analyzer, env: &Env, first: Expr, second: Expr) -> Resul
 // Emit: the arguments in order.
 pub fn analyze_args(a: &Analyzer, env: &Env, args: Exprs) -> Result<(), SemaError>
     requires { OfSheet a.now args.contract }
-    ensures { env_after env.now result ≡ args_checked (contract_of a.now) env.now.names (exprs_in args.entry) }
+    ensures { env_after env.now result ≡ args_checked (analyzed_contract a.now) env.now.names (exprs_in args.entry) }
 {
     for arg in args {
         analyze_expr(a, env, arg)?;
@@ -46,6 +46,7 @@ pub fn analyze_args(a: &Analyzer, env: &Env, args: Exprs) -> Result<(), SemaErro
 }
 
 // Assign, at a place: the name, then the expression.
+#[tactic(auto, unfolding(analyze_walk::specs::Stops::check_stmt))]
 pub fn analyze_assign(
     a: &Analyzer,
     env: &Env,
@@ -54,7 +55,7 @@ pub fn analyze_assign(
     value: Expr,
 ) -> Result<(), SemaError>
     requires { OfSheet a.now value.contract }
-    ensures { env_after env.now result ≡ check_stmt (contract_of a.now) (ret_of a.now) (Stmt.Assign at name.0 (expr_in value.entry)) env.now.names }
+    ensures { env_after env.now result ≡ check_stmt (analyzed_contract a.now) (ret_of a.now) (Stmt.Assign at name.0 (expr_in value.entry)) env.now.names }
 {
     let expected = env.get(name).ok_or(SemaError::UndefinedVariable(at))?;
     let ty = analyze_expr(a, env, value)?;
@@ -65,6 +66,7 @@ pub fn analyze_assign(
 }
 
 // Return, at a place, perhaps of a value; Void without one.
+#[tactic(auto, unfolding(analyze_walk::specs::Stops::check_stmt, analyze_walk::specs::Stops::check_return))]
 pub fn analyze_return(
     a: &Analyzer,
     env: &Env,
@@ -72,7 +74,7 @@ pub fn analyze_return(
     value: Option<Expr>,
 ) -> Result<(), SemaError>
     requires { IfSome value (λ e. OfSheet a.now e.contract) }
-    ensures { env_after env.now result ≡ check_stmt (contract_of a.now) (ret_of a.now) (Stmt.Return at (returned value.entry)) env.now.names }
+    ensures { env_after env.now result ≡ check_stmt (analyzed_contract a.now) (ret_of a.now) (Stmt.Return at (opt_expr_in value.entry)) env.now.names }
 {
     // No plainer: `map_or` would have an `Ok` around Void, and a closure around the call.
     let ty = match value {

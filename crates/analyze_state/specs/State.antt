@@ -14,8 +14,8 @@ use Rattle.analyze_state.specs.declared.Analyzer.{Analyzer}
 use Rattle.analyze_state.specs.declared.SemaError.{SemaError}
 
 -- the contract, and the return type of the function under way
-abbrev pub contract_of : Analyzer → ast.Contract
-contract_of a = contract_in a.structs.now.contract
+abbrev pub analyzed_contract : Analyzer → ast.Contract
+analyzed_contract a = contract_in a.structs.now.contract
 
 abbrev pub ret_of : Analyzer → defs.IrType
 ret_of a = as_type a.ret

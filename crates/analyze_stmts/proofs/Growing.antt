@@ -1,11 +1,11 @@
 -- The names that become known, and the room for them. Assumes nothing.
 use mathlib.Core.Path.{◌≡◌, ap, sym, ◌∙◌}
 use mathlib.Core.List.{List, [], ◌∷◌, ◌++◌, append_assoc}
-use Prim.Native.Nat.{ℕ, zero, suc, ◌+◌, ◌-◌, ◌≤◌}
+use Prim.Native.Nat.{ℕ, ◌+◌, ◌-◌, ◌≤◌}
 use native.Mathlib.Omega.{arith}
-use lib.ListN.{length, drop, length-append}
-use Rattle.std.specs.Prelude.{Result, Ok, Err, OnOk}
-use Rattle.definitions.specs.Analyze.{Ty, Env}
+use lib.ListN.{length, length-append}
+use Rattle.std.proofs.Math.Seq.{drop-append-add}
+use Rattle.definitions.specs.Analyze.{Ty}
 use Rattle.definitions.specs.Grammar.{Class}
 use Rattle.definitions.specs.Records.{check_records}
 use Rattle.definitions.proofs.Sheets.Passed.{fine}
@@ -35,16 +35,7 @@ then_more f g = record {
 pub up_to : {a b : Names} {x y : ℕ} → GrownTo a b x → x ≤ y → GrownTo a b y
 up_to f h = record { more = f.more; is = f.is; few = omega (arith, f.few, h); room = f.room }
 
-pub on_ok : {E P Q : Type 0} (r : Result (Unit {0}) E) → (P → Q) → OnOk r P → OnOk r Q
-on_ok (Ok x) f p = f p
-on_ok (Err e) f p = tt
-
 -- THE FIRST ONES AGAIN, behind a For
-drop_all : (xs : Env) (z : ℕ × Ty) (ys : Env) (k : ℕ) → k ≡ suc (length xs) → drop k (xs ++ (z ∷ ys)) ≡ ys
-drop_all xs z ys zero e = absurd (omega arith)
-drop_all [] z ys (suc k) e = let q : k ≡ 0 = omega arith in rw q
-drop_all (x ∷ xs) z ys (suc k) e = drop_all xs z ys k (omega arith)
-
 module _ {env e₁ e₂ : Names} {n : ℕ} {t : Ty} {x : ℕ} (q : e₁ ≡ named n t env) (g : GrownTo e₁ e₂ x) where
   opened : e₂.names ≡ g.more ++ ((n, t) ∷ env.names)
   opened = g.is ∙ ap (λ (e : Names). g.more ++ e.names) q
@@ -52,8 +43,8 @@ module _ {env e₁ e₂ : Names} {n : ℕ} {t : Ty} {x : ℕ} (q : e₁ ≡ name
   module _ {e₃ : Names} {mark : ℕ} (m : mark ≡ length env.names) (c : e₃ ≡ truncated mark e₂) where
     pub names_back : e₃.names ≡ env.names
     names_back =
-        ap (λ (e : Names). e.names) c
-        ∙ rw opened (drop_all g.more (n, t) env.names (length (g.more ++ ((n, t) ∷ env.names)) - mark) (omega (arith, m, length-append g.more ((n, t) ∷ env.names))))
+        let behind : length e₂.names - mark ≡ length g.more + 1 = omega (arith, m, ap length opened, length-append g.more ((n, t) ∷ env.names)) in
+        ap (λ (e : Names). e.names) c ∙ rw (behind, opened) (drop-append-add g.more ((n, t) ∷ env.names) 1)
 
     pub back : (at : ℕ) {y : ℕ} → FewAt at env → at ≤ y → GrownTo env e₃ y
     back at f h = record {

@@ -1,14 +1,17 @@
 -- What each statement comes to, once its parts do. Assumes nothing.
 use mathlib.Core.Path.{◌≡◌, refl, ap, ◌∙◌}
 use Prim.Native.Nat.{ℕ}
-use Rattle.std.specs.Prelude.{◌⊎◌}
 use Rattle.std.proofs.Common.{inl, inr}
-use Rattle.definitions.specs.Answers.{Refusal}
 use Rattle.definitions.specs.Result.{err, ok, ◌>>=◌, ◌>>◌}
-use Rattle.definitions.specs.Ast.{Expr, Stmt, Stmts, snil, scons, OptStmts, no_else, else_do, Contract}
+use Rattle.definitions.specs.Ast.{Expr, Stmt, Stmts, snil, scons, Contract}
 use Rattle.definitions.specs.Ir.{IrType}
 use Rattle.definitions.specs.Analyze.{Ty, U64, Env, insert}
 use Rattle.analyze_walk.specs.Stops.{Checking, check_expr, check_stmt, check_stmts, check_else}
+use Rattle.contract_nodes.specs.Nodes.{expr_in, stmt_in, stmts_in, IfIs}
+use Rattle.contract_nodes.specs.declared.expr.Expr.{Expr as Condition}
+use Rattle.contract_nodes.specs.declared.stmt.Stmt.{Stmt as Node}
+use Rattle.contract_nodes.specs.declared.stmt.Stmts.{Stmts as Arm}
+use Rattle.analyze_env.specs.Names.{Names}
 use Rattle.analyze_simple.specs.Checked.{pair_checked}
 
 module _ (K : Contract) (ret : IrType) (env : Env) where
@@ -26,82 +29,43 @@ module _ (K : Contract) (ret : IrType) (env : Env) where
   unfolding check_stmt
   none_is q = rw q
 
-  -- IF
-  abbrev Arms : OptStmts → Stmts → Type 0
-  Arms arms b = ((arms ≡ no_else) × (b ≡ snil)) ⊎ ((p : ℕ) × (arms ≡ else_do p b))
+  -- IF, given what came of the condition, and then of the first arm
+  module _ {t : Node} {cond : Condition} {a b : Arm} (i : IfIs t cond a b) where
+    abbrev both_arms : Checking Ty → Checking Env
+    both_arms r = r >> (check_stmts K ret (stmts_in a) env >>= check_else K ret i.arms)
 
-  other_arm : (arms : OptStmts) (b : Stmts) (env₁ : Env) → Arms arms b → check_stmts K ret b env₁ ≡ check_else K ret arms env₁
+    other_arm : (env₁ : Env) → check_stmts K ret (stmts_in b) env₁ ≡ check_else K ret i.arms env₁
+    unfolding check_stmt
+    other_arm env₁ = elim i.other [ inl h ↦ rw (h.0, h.1) | inr h ↦ rw h.1 ]
+
+    pub test_is : {r : Checking Ty} → r ≡ check_expr K env (expr_in cond) → both_arms r ≡ check_stmt K ret (stmt_in t) env
+    unfolding check_stmt
+    test_is w = rw i.is (ap both_arms w)
+
+    module _ {ty : Ty} (w : ok ty ≡ check_expr K env (expr_in cond)) where
+      pub then_is : {r : Checking Env} → r ≡ check_stmts K ret (stmts_in a) env → (r >>= check_else K ret i.arms) ≡ check_stmt K ret (stmt_in t) env
+      then_is v = ap (λ (r : Checking Env). r >>= check_else K ret i.arms) v ∙ test_is w
+
+      pub if_is : {env₁ : Env} {r : Checking Env} → ok env₁ ≡ check_stmts K ret (stmts_in a) env → r ≡ check_stmts K ret (stmts_in b) env₁ → r ≡ check_stmt K ret (stmt_in t) env
+      if_is {env₁} v u = u ∙ (other_arm env₁ ∙ then_is v)
+
+  -- WHILE, given what came of the condition
+  pub while_is : {s : Stmt} {p q : ℕ} {cond : Expr} {a : Stmts} {r : Checking Ty} → s ≡ Stmt.While p cond q a → r ≡ check_expr K env cond → (r >> check_stmts K ret a env) ≡ check_stmt K ret s env
   unfolding check_stmt
-  other_arm arms b env₁ (inl h) = rw (h.0, h.1)
-  other_arm arms b env₁ (inr h) = rw h.1
+  while_is {a = a} is w = rw is (ap (λ (r : Checking Ty). r >> check_stmts K ret a env) w)
 
-  -- given what came of the condition, and then of the first arm
-  both_arms : OptStmts → Checking Env → Checking Env
-  both_arms arms r = r >>= check_else K ret arms
-
-  if_on : Stmts → OptStmts → Checking Ty → Checking Env
-  if_on a arms r = r >> both_arms arms (check_stmts K ret a env)
-
-  module _ {s : Stmt} {p q : ℕ} {cond : Expr} {a : Stmts} {arms : OptStmts} (is : s ≡ Stmt.If p cond q a arms) where
-    tested : {r : Checking Ty} → r ≡ check_expr K env cond → if_on a arms r ≡ check_stmt K ret s env
-    unfolding check_stmt if_on both_arms
-    tested w = rw is (ap (if_on a arms) w)
-
-    pub if_refused : {x : Refusal} → err x ≡ check_expr K env cond → err x ≡ check_stmt K ret s env
-    unfolding if_on
-    if_refused w = tested w
-
-    module _ {t : Ty} (w : ok t ≡ check_expr K env cond) where
-      behind_first : {r : Checking Env} → r ≡ check_stmts K ret a env → both_arms arms r ≡ check_stmt K ret s env
-      unfolding if_on
-      behind_first v = ap (both_arms arms) v ∙ tested w
-
-      pub then_refused : {x : Refusal} → err x ≡ check_stmts K ret a env → err x ≡ check_stmt K ret s env
-      unfolding both_arms
-      then_refused v = behind_first v
-
-      pub if_is : {b : Stmts} {env₁ : Env} {r : Checking Env} → Arms arms b → ok env₁ ≡ check_stmts K ret a env → r ≡ check_stmts K ret b env₁ → r ≡ check_stmt K ret s env
-      unfolding both_arms
-      if_is {b} {env₁} other v u = u ∙ (other_arm arms b env₁ other ∙ behind_first v)
-
-  -- WHILE
-  while_on : Stmts → Checking Ty → Checking Env
-  while_on a r = r >> check_stmts K ret a env
-
-  module _ {s : Stmt} {p q : ℕ} {cond : Expr} {a : Stmts} (is : s ≡ Stmt.While p cond q a) where
-    pub while_refused : {x : Refusal} → err x ≡ check_expr K env cond → err x ≡ check_stmt K ret s env
-    unfolding check_stmt while_on
-    while_refused w = rw is (ap (while_on a) w)
-
-    pub while_is : {t : Ty} {r : Checking Env} → ok t ≡ check_expr K env cond → r ≡ check_stmts K ret a env → r ≡ check_stmt K ret s env
-    unfolding check_stmt while_on
-    while_is w v = rw is (v ∙ ap (while_on a) w)
-
-  -- FOR: its bounds, then its body
-  bounds_refused : (r s : Checking Ty) (k : Checking Env) {x : Refusal} → err x ≡ ((r >> s) >> ok env) → err x ≡ (r >> (s >> k))
-  bounds_refused (err y) s k h = h
-  bounds_refused (ok t) (err y) k h = h
-  bounds_refused (ok t) (ok u) k h = absurd (cc)
-
-  bounds_typed : (r s : Checking Ty) (k : Checking Env) {e : Env} → ok e ≡ ((r >> s) >> ok env) → k ≡ (r >> (s >> k))
-  bounds_typed (err y) s k h = absurd (cc)
-  bounds_typed (ok t) (err y) k h = absurd (cc)
-  bounds_typed (ok t) (ok u) k h = refl
+  -- FOR, given what came of its bounds, and then of its body, before which its variable became known
+  both_bounds : (r s : Checking Ty) (k : Checking Env) → (((r >> s) >> ok env) >> k) ≡ (r >> (s >> k))
+  both_bounds (err x) s k = refl
+  both_bounds (ok t) (err x) k = refl
+  both_bounds (ok t) (ok u) k = refl
 
   module _ {s : Stmt} {p var q : ℕ} {start end : Expr} {body : Stmts} (is : s ≡ Stmt.For p var start end q body) where
-    pub for_refused : {x : Refusal} → err x ≡ pair_checked K env start end → err x ≡ check_stmt K ret s env
+    pub bounds_are : {r : Checking Env} → r ≡ pair_checked K env start end → (r >> (check_stmts K ret body (insert var U64 env) >> ok env)) ≡ check_stmt K ret s env
     unfolding check_stmt
-    for_refused w = rw is (bounds_refused (check_expr K env start) (check_expr K env end) (check_stmts K ret body (insert var U64 env) >> ok env) w)
+    bounds_are w =
+        ap (λ (r : Checking Env). r >> (check_stmts K ret body (insert var U64 env) >> ok env)) w
+        ∙ rw is (both_bounds (check_expr K env start) (check_expr K env end) (check_stmts K ret body (insert var U64 env) >> ok env))
 
-    module _ {e : Env} (w : ok e ≡ pair_checked K env start end) where
-      behind_body : {r : Checking Env} → r ≡ check_stmts K ret body (insert var U64 env) → (r >> ok env) ≡ check_stmt K ret s env
-      unfolding check_stmt
-      behind_body v =
-          ap (λ (r : Checking Env). r >> ok env) v
-          ∙ rw is (bounds_typed (check_expr K env start) (check_expr K env end) (check_stmts K ret body (insert var U64 env) >> ok env) w)
-
-      pub body_refused : {x : Refusal} → err x ≡ check_stmts K ret body (insert var U64 env) → err x ≡ check_stmt K ret s env
-      body_refused v = behind_body v
-
-      pub for_is : {e₂ : Env} → ok e₂ ≡ check_stmts K ret body (insert var U64 env) → ok env ≡ check_stmt K ret s env
-      for_is v = behind_body v
+    pub body_is : {e : Env} {room : ℕ} {env₁ : Names} {r : Checking Env} → ok e ≡ pair_checked K env start end → env₁ ≡ record { names = insert var U64 env; room = room } → r ≡ check_stmts K ret body env₁.names → (r >> ok env) ≡ check_stmt K ret s env
+    body_is w k v = ap (λ (r : Checking Env). r >> ok env) (rw k at v) ∙ bounds_are w

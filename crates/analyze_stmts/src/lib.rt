@@ -5,7 +5,7 @@
 ghost use Rattle.std.specs.Prelude.{◌≡◌, OnOk};
 ghost use Rattle.contract_nodes.specs.Nodes.{stmt_in, stmts_in, stop_in};
 ghost use Rattle.analyze_walk.specs.Stops.{check_stmt, check_stmts};
-ghost use Rattle.analyze_state.specs.State.{sheet_of, contract_of, ret_of, OfSheet, env_after};
+ghost use Rattle.analyze_state.specs.State.{sheet_of, analyzed_contract, ret_of, OfSheet, env_after};
 ghost use Rattle.analyze_stmts.specs.Room.{Room, GrownTo};
 
 use analyze_env::{Env, Ty};
@@ -22,7 +22,7 @@ use ir::IrType;
 pub fn analyze_stmt(a: &Analyzer, env: &mut Env, t: Stmt) -> Result<(), SemaError>
     requires of_sheet { OfSheet a.now t.contract }
     requires room { Room (sheet_of a.now) env.old t.at }
-    ensures is { env_after env.new result ≡ check_stmt (contract_of a.now) (ret_of a.now) (stmt_in t.entry) env.old.names }
+    ensures is { env_after env.new result ≡ check_stmt (analyzed_contract a.now) (ret_of a.now) (stmt_in t.entry) env.old.names }
     ensures grown { OnOk result (GrownTo env.old env.new (stop_in t.entry)) }
 {
     match t.node() {
@@ -63,7 +63,7 @@ pub fn analyze_stmt(a: &Analyzer, env: &mut Env, t: Stmt) -> Result<(), SemaErro
 pub fn analyze_stmts(a: &Analyzer, env: &mut Env, body: Stmts) -> Result<(), SemaError>
     requires of_sheet { OfSheet a.now body.contract }
     requires room { Room (sheet_of a.now) env.old body.at }
-    ensures is { env_after env.new result ≡ check_stmts (contract_of a.now) (ret_of a.now) (stmts_in body.entry) env.old.names }
+    ensures is { env_after env.new result ≡ check_stmts (analyzed_contract a.now) (ret_of a.now) (stmts_in body.entry) env.old.names }
     ensures grown { OnOk result (GrownTo env.old env.new body.entry.end) }
 {
     for t in body {

@@ -184,21 +184,16 @@ last_map {A} f name h i (t ∷ ts) n = rw (last_map f name h (suc i) ts n, h t) 
     go none true = refl
     go none false = refl
 
--- what was found among the records, r, which is u, is what is found in the table
-pub in_table : {A : Type 0} {s : List ℕ} (k n : ℕ) (f : Tree → A) (name : A → ℕ) → ContractPassed s → ((t : Tree) → name (f t) ≡ tree_name t) → {l : List A} → l ≡ gather k k f (read_records s 8 (length s)) → {r u : Maybe Found}
-    → r ≡ u → found_in s r ≡ last_of s k n → last_named name 0 l n ≡ over_second f (found_in s u)
-in_table {A} {s} k n f name C h {l} e {r} {u} w q =
-    ap (λ (x : List A). last_named name 0 x n) (e ∙ gather_map k f (read_records s 8 (length s)))
-    ∙ (last_map f name h 0 (these s k 8) n ∙ ap (over_second f) (ap (λ (ts : List Tree). last_named tree_name 0 ts n) (these_all k C) ∙ (sym q ∙ ap (found_in s) w)))
+-- what was found among the records is what is found in the table
+pub in_table : {A : Type 0} {s : List ℕ} (k n : ℕ) (f : Tree → A) (name : A → ℕ) → ContractPassed s → ((t : Tree) → name (f t) ≡ tree_name t) → {l : List A} → l ≡ gather k k f (read_records s 8 (length s)) → {r : Option (ℕ × Tree)}
+    → r ≡ last_of s k n → over_second f r ≡ last_named name 0 l n
+in_table {A} {s} k n f name C h {l} e {r} q =
+    ap (over_second f) (q ∙ ap (λ (ts : List Tree). last_named tree_name 0 ts n) (sym (these_all k C)))
+    ∙ sym (ap (λ (x : List A). last_named name 0 x n) (e ∙ gather_map k f (read_records s 8 (length s))) ∙ last_map f name h 0 (these s k 8) n)
 
 -- no more than there may be of the kind, and so a position is below
 pub all_few : {s : List ℕ} {k : ℕ} → ContractPassed s → TopKind k → length (records_of s k) ≤ most_of k
 all_few {s} {k} C K = rw (← these_all k C) (at_most (λ (t : Tree). t) C K)
 
-pub position_low : {s : List ℕ} {k i p : ℕ} (n : ℕ) → ContractPassed s → TopKind k → {r : Maybe Found} → r ≡ at_place i p → found_in s r ≡ last_of s k n → i < most_of k
-position_low {s} {k} {i} {p} n C K e q =
-    omega (
-      arith,
-      last_below tree_name 0 (records_of s k) n (i, tree_at s p) (sym q ∙ ap (found_in s) e),
-      all_few C K,
-    )
+pub position_low : {s : List ℕ} {k : ℕ} {x : ℕ × Tree} (n : ℕ) → ContractPassed s → TopKind k → some x ≡ last_of s k n → x.0 < most_of k
+position_low {s} {k} {x} n C K q = omega (arith, last_below tree_name 0 (records_of s k) n x (sym q), all_few C K)

@@ -15,21 +15,18 @@ use Rattle.definitions.specs.Ast.{Function}
 use Rattle.definitions.specs.Fields.{le}
 use Rattle.definitions.specs.Names.{last_named}
 use Rattle.definitions.specs.Records.{Tree, read_records}
-use Rattle.definitions.specs.ContractSheet.{struct_of, function_of, read_contract}
-use Rattle.definitions.specs.Lower.{struct_named}
-use Rattle.definitions.specs.Sema.{function_named}
+use Rattle.definitions.specs.ContractSheet.{function_of, read_contract}
 use Rattle.definitions.proofs.Results.{by_test, some_none}
 use Rattle.definitions.proofs.Contracts.Limits.{TopKind, storage, struct, function, most_of}
 use Rattle.sheet.specs.Passed.{ContractPassed, record_kind, stop_of}
 use Rattle.contract_nodes.specs.Ready.{tree_at}
 use Rattle.contract_nodes.proofs.Order.{none_after}
-use Rattle.contract_nodes.proofs.Tops.{Tops, Top, next_top, contract_at, at_most}
-use Rattle.contract_lookup.specs.Answers.{second, nth_function, tree_name, records_of, last_of}
+use Rattle.contract_nodes.proofs.Tops.{Tops, Top, next_top, contract_at}
+use Rattle.contract_lookup.specs.Answers.{nth_function, tree_name, records_of, last_of}
 use Rattle.contract_lookup.specs.Listed.{Named, placed, place_of, Listed, LastAt}
 use Rattle.contract_lookup.proofs.Backwards.{last_here, last_not}
-use Rattle.contract_lookup.proofs.Lasts.{at_place, gather_map, these, these_all, these_end, these_here, these_past, all_few}
-use Rattle.contract_lookup.proofs.Symbolic.{struct_is, function_is}
-use Rattle.std.specs.Prelude.{Option as Maybe, None, Some}
+use Rattle.contract_lookup.proofs.Lasts.{gather_map, these, these_all, these_end, these_here, these_past, all_few}
+use Rattle.std.specs.Prelude.{None, Some}
 use Rattle.contract_nodes.proofs.Standing.{stands}
 
 -- THE WALK: the places are those of the records of the kind before `at`
@@ -176,24 +173,6 @@ module _ {s places : List ℕ} (kind : ℕ) {n : ℕ} {left : List ℕ} (C : Con
       is = sym (last_not tree_name (tree_at s p) n (λ z. q (sym here.2 ∙ z)) 0 (map (tree_at s) before)) ∙ (ap (λ (ts : List Tree). last_named tree_name 0 ts n) (sym apart) ∙ W.is);
     }
 
--- WHAT WAS FOUND, in the contract
-module _ {s : List ℕ} (n : ℕ) (C : ContractPassed s) where
-  pub no_struct : {r : Maybe ℕ} → r ≡ None → LastAt s 3 n r → none ≡ second (struct_named (read_contract s) n)
-  no_struct {r} e L = ap second (sym (struct_is n C {r = None} refl (sym (subst (LastAt s 3 n) e L))))
-
-  pub struct_there : {r : Maybe ℕ} {p : ℕ} → r ≡ Some p → LastAt s 3 n r → some (struct_of (tree_at s p)) ≡ second (struct_named (read_contract s) n)
-  struct_there {r} {p} e L =
-      let m = subst (LastAt s 3 n) e L in
-      ap second (sym (struct_is n C {r = at_place m.0 p} refl (sym m.1)))
-
-  pub no_function_lem : {r : Maybe ℕ} → r ≡ None → LastAt s 4 n r → none ≡ second (function_named (read_contract s) n)
-  no_function_lem {r} e L = ap second (sym (function_is n C {r = None} refl (sym (subst (LastAt s 4 n) e L))))
-
-  pub function_there : {r : Maybe ℕ} {p : ℕ} → r ≡ Some p → LastAt s 4 n r → some (function_of (tree_at s p)) ≡ second (function_named (read_contract s) n)
-  function_there {r} {p} e L =
-      let m = subst (LastAt s 4 n) e L in
-      ap second (sym (function_is n C {r = at_place m.0 p} refl (sym m.1)))
-
 -- THE i-TH FUNCTION
 nth_past : (fs : List Function) (i : ℕ) → length fs ≤ i → nth_function fs i ≡ none
 nth_past [] i h = refl
@@ -201,16 +180,16 @@ nth_past (f ∷ fs) zero h = absurd (omega (arith, h))
 nth_past (f ∷ fs) (suc i) h = nth_past fs i (omega (arith, h))
 
 -- the functions from the i-th on, by what stands there
-pub none_from : (fs : List Function) (i : ℕ) → nth_function fs i ≡ none → drop i fs ≡ []
+pub none_from : (fs : List Function) (i : ℕ) → none ≡ nth_function fs i → drop i fs ≡ []
 none_from [] zero e = refl
 none_from [] (suc i) e = refl
-none_from (f ∷ fs) zero e = absurd (some_none f e)
+none_from (f ∷ fs) zero e = absurd (some_none f (sym e))
 none_from (f ∷ fs) (suc i) e = none_from fs i e
 
-here_from : (fs : List Function) (i : ℕ) {g : Function} → nth_function fs i ≡ some g → (drop i fs ≡ g ∷ drop (suc i) fs) × (i < length fs)
-here_from [] i e = absurd (some_none _ (sym e))
-here_from (f ∷ fs) zero {g} e = let q : f ≡ g = cc in (ap (λ h. h ∷ fs) q, omega arith)
-here_from (f ∷ fs) (suc i) e = let h = here_from fs i e in (h.0, omega (arith, h.1))
+pub here_from : (fs : List Function) (i : ℕ) {g : Function} → some g ≡ nth_function fs i → drop i fs ≡ g ∷ drop (suc i) fs
+here_from [] i e = absurd (some_none _ e)
+here_from (f ∷ fs) zero {g} e = let q : f ≡ g = cc in ap (λ h. h ∷ fs) q
+here_from (f ∷ fs) (suc i) e = here_from fs i e
 
 nth_placed : (s : List ℕ) (ps : List ℕ) (i : ℕ) → i < length ps → nth_function (map function_of (map (tree_at s) ps)) i ≡ some (function_of (tree_at s (get_or ps i 0)))
 nth_placed s [] i h = absurd (omega (arith, h))
@@ -229,11 +208,3 @@ module _ {s : List ℕ} (places : List ℕ) (C : ContractPassed s) (L : Listed s
 
   pub nth_there : {i : ℕ} → i < length places → some (function_of (tree_at s (get_or places i 0))) ≡ nth_function (read_contract s).functions i
   nth_there {i} h = sym (ap (λ fs. nth_function fs i) functions_are ∙ nth_placed s places i h)
-
--- A STEP of a walk over the functions
-functions_few : {s : List ℕ} → ContractPassed s → length (read_contract s).functions ≤ 64
-functions_few C = rw (contract_at C).functions (at_most function_of C function)
-
-pub next_there : {s : List ℕ} {i : ℕ} {g : Function} → ContractPassed s → some g ≡ nth_function (read_contract s).functions i
-    → (drop i (read_contract s).functions ≡ g ∷ drop (suc i) (read_contract s).functions) × (i < 64)
-next_there {s} {i} C e = let h = here_from (read_contract s).functions i (sym e) in (h.0, omega (arith, h.1, functions_few C))

@@ -10,7 +10,7 @@ use Rattle.definitions.specs.Records.{Tree, node, num_at, gather}
 use Rattle.definitions.specs.Sema as sema
 use Rattle.ir.specs.Types.{as_type}
 use Rattle.sheet.specs.Passed.{children_of}
-use Rattle.contract_nodes.specs.Ready.{tree_at, top_class, Stands}
+use Rattle.contract_nodes.specs.Ready.{tree_at, top_class, RecordStands}
 use Rattle.contract_lookup.specs.declared.symbols.Found.{Found}
 use Rattle.contract_lookup.specs.declared.symbols.Signature.{Signature}
 
@@ -31,12 +31,19 @@ found_in s None = none
 
 -- a record of the kind k that was found stands at its place
 abbrev pub StandsAt : List ℕ → ℕ → Maybe Found → Type 0
-StandsAt s k (Some f) = Stands (top_class k) s f.at 39
+StandsAt s k (Some f) = RecordStands (top_class k) s f.at 39
 StandsAt s k None = Unit {0}
 
--- a storage field by its place, 8 + 10 * i for the i-th
+-- A STORAGE FIELD: its bytes, and its slot by its place
+abbrev pub storage_bytes : ℕ
+storage_bytes = 10
+
+abbrev pub slot_at : (place : ℕ) → ℕ
+slot_at p = p / storage_bytes
+
+-- the field at a place
 abbrev pub stored_at : Maybe ℕ → Maybe Found
-stored_at (Some p) = Some (record { position = p / 10; at = p })
+stored_at (Some p) = Some (record { position = slot_at p; at = p })
 stored_at None = None
 
 -- the name of a storage field, a struct or a function
@@ -50,9 +57,9 @@ records_of s kind = gather kind kind (λ (t : Tree). t) (children_of s 0)
 abbrev pub last_of : List ℕ → (kind name : ℕ) → Option (ℕ × Tree)
 last_of s kind name = last_named tree_name 0 (records_of s kind) name
 
--- behind a storage field, of ten bytes; where the fields start, if there is none
+-- behind a storage field; where the fields start, if there is none
 abbrev pub behind_of : Maybe ℕ → ℕ
-behind_of (Some p) = p + 10
+behind_of (Some p) = p + storage_bytes
 behind_of None = 8
 
 -- b is behind the last storage field that has the name

@@ -1,7 +1,7 @@
 // The contract's structs, or its functions, by their places: kept, they are searched by name without a walk over the records between them.
 // `Structs` and `Functions` are no generic list: each reads as another list of the definitions, so a trait would have more lines than the two
 // constructors and searches, which share `places_of` and `last_place`.
-ghost use Rattle.std.specs.Prelude.{◌≡◌, ◌≤◌, [], ℕ, IfSome, length};
+ghost use Rattle.std.specs.Prelude.{◌≡◌, ◌≤◌, ◌<◌, [], ℕ, IfSome, length};
 ghost use Rattle.definitions.specs.Lower.{struct_named};
 ghost use Rattle.definitions.specs.Sema.{function_named};
 ghost use Rattle.format.specs.Kinds.{item_number};
@@ -133,6 +133,7 @@ impl<'a> Functions<'a> {
     // The i-th of them.
     pub fn get(&self, i: usize) -> Option<Function<'a>>
         ensures is { option_of function_in result ≡ nth_function (contract_in self.now.contract).functions i }
+        ensures most { IfSome result (λ f. i < 64) }
         ensures same_sheet { IfSome result (λ f. f.contract.sheet.now ≡ self.now.contract.sheet.now) }
     {
         if self.places.len() <= i {

@@ -1,4 +1,4 @@
-// Storage fields, structs and functions by name: each of them the last of its name. The contract's record starts at 0, and its children at 8.
+// Storage fields, structs and functions by name: each of them the last of its name. The contract's record starts at 0, and its children at CHILDREN.
 ghost use Rattle.std.specs.Prelude.{◌≡◌, ◌<◌, IfSome, eqb};
 ghost use Rattle.definitions.specs.Lower.{struct_named, field_position};
 ghost use Rattle.definitions.specs.Records.{pick};
@@ -8,7 +8,7 @@ ghost use Rattle.ir.specs.Types.{as_type};
 ghost use Rattle.sheet.specs.Passed.{record_kind, stop_of};
 ghost use Rattle.contract_nodes.specs.Ready.{Ready, top_class};
 ghost use Rattle.contract_nodes.specs.Nodes.{contract_in, struct_in};
-ghost use Rattle.contract_lookup.specs.Answers.{second, found_in, StandsAt, BehindLast, last_of, slot_named, field_type_named, signature_of, id_named};
+ghost use Rattle.contract_lookup.specs.Answers.{second, found_in, StandsAt, BehindLast, last_of, slot_at, slot_named, field_type_named, signature_of, id_named};
 
 use crate::types::{from_str, return_type};
 use contract_nodes::{Contract, Function, Struct};
@@ -31,7 +31,7 @@ pub struct Signature {
     pub ret: IrType,
 }
 
-// The place after a record. A storage field takes ten bytes, so that a walk past it waits for no length that it reads.
+// The place after a record. Storage fields all take the same bytes, so that a walk past one waits for no length that it reads.
 pub(crate) fn past(s: &[u8], at: usize, kind: u16) -> usize
     requires { (kind ≡ record_kind s.now at) × Ready (top_class kind) s.now at 39 }
     ensures { result ≡ stop_of s.now at }
@@ -116,7 +116,14 @@ fn last_storage(contract: Contract, name: Name) -> usize
     found
 }
 
-// A storage field's slot, which is its position: the first field stands at 8, and each takes ten bytes.
+// The slot of the storage field at a place, which is its position: before the first stand CHILDREN bytes, fewer than a field's.
+fn slot_at(at: usize) -> usize
+    ensures { result ≡ slot_at at }
+{
+    at / contract::STORAGE_BYTES
+}
+
+// A storage field's slot.
 pub fn storage_slot(contract: Contract, name: Name) -> Option<usize>
     ensures { option_of (λ i. i) result ≡ slot_named (contract_in contract.entry) name.0 }
 {
@@ -124,7 +131,7 @@ pub fn storage_slot(contract: Contract, name: Name) -> Option<usize>
     if behind == contract::CHILDREN {
         return None;
     }
-    Some((behind - contract::STORAGE_BYTES) / contract::STORAGE_BYTES)
+    Some(slot_at(behind - contract::STORAGE_BYTES))
 }
 
 // The struct of a name.

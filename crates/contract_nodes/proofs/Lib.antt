@@ -2,7 +2,6 @@ pub mod Children
 pub mod ExprPlaces
 pub mod Order
 pub mod StmtPlaces
-pub mod Parts
 pub mod Standing
 pub mod Steps
 pub mod Tops

@@ -1,49 +1,23 @@
 -- What stands at a place, as the equations that a node carries and as the proof tree: each gives the other. Assumes nothing.
-use mathlib.Core.Path.{◌≡◌, refl, sym, subst}
+use mathlib.Core.Path.{◌≡◌, refl, subst}
 use mathlib.Core.Bool.{Bool, true, false, ◌&&◌, ◌||◌}
 use mathlib.Core.List.{List}
-use Prim.Native.Nat.{ℕ, zero, suc, ◌+◌, ◌-◌, ◌<◌, ◌≤◌}
-use native.Mathlib.Nat.{not-suc-le-zero}
+use Prim.Native.Nat.{ℕ, ◌-◌, ◌≤◌}
 use native.Mathlib.Omega.{arith}
 use lib.Dec.{leb, eqb}
-use borrow.Author.Tests.{leb-false, eq-eqb, ne_eqb, le-leb, lt-leb}
-use Rattle.definitions.specs.Fields.{le}
-use Rattle.definitions.specs.Grammar.{Class, class_no, Field, Pattern, done}
-use Rattle.definitions.specs.Records.{Good, and_then, after, may_end, left, start_row, start_if, start_at, starts, check_rest, records_from, check_records, Tree, node, Trees, tnil, tcons, read_records, FieldValue}
+use borrow.Author.Tests.{leb-false, eq-eqb, lt-leb}
+use Rattle.definitions.specs.Grammar.{Class, class_no, done}
+use Rattle.definitions.specs.Records.{Good, and_then, after, may_end, Tree, node, Trees, tnil, tcons, read_records, FieldValue}
 use Rattle.definitions.specs.ContractSheet.{Counts, none_before, and_this, over, limit_tree, limit_trees}
-use Rattle.definitions.specs.Fine.{Head, Fine, ends, goes}
+use Rattle.definitions.specs.Fine.{Head, ends, goes}
 use Rattle.definitions.proofs.Contracts.Limits.{measured}
 use Rattle.definitions.proofs.Results.{by_test}
-use Rattle.definitions.proofs.Sheets.Passed.{bad_good, both_good, fine}
+use Rattle.definitions.proofs.Sheets.Passed.{bad_good, both_good}
 use Rattle.definitions.proofs.Sheets.Steps.{One, this, one_step}
 use Rattle.sheet.specs.Passed.{stop_of}
 use Rattle.sheet.proofs.Nodes.{node_of}
-use Rattle.contract_nodes.specs.Ready.{tree_at, Ready, ReadyAll, Stands, StandAll}
-
--- THE FORM: a proof tree passes the check, whatever the bound on its calls is
-starts_at : {s : List ℕ} {at end b stop : ℕ} {r p : Pattern} {c : Class} {fs : List Field} (q : Pattern) → Head s at end c fs p b stop → after q c ≡ left r → start_at s at end q ≡ starts b stop p r
-unfolding start_at start_row start_if
-starts_at {s} {at} {end} {b} {stop} q hd a =
-    let z : at + le 4 s at ≡ stop = sym hd.stop_is in
-    rw (le-leb 6 (end - at) (omega (arith, hd.low, hd.mid, hd.high)), le-leb 6 (le 4 s at) (omega (arith, hd.low, hd.mid, z)), le-leb (le 4 s at) (end - at) (omega (arith, hd.high, z)), hd.is, z, hd.valid, a)
-
-good : {s : List ℕ} {at end : ℕ} {q : Pattern} → Fine s at end q → (n : ℕ) → end - at < n → records_from n s at end q ≡ Good
-unfolding records_from check_rest and_then
-good f zero h = absurd (not-suc-le-zero h)
-good {at = at} {end = end} (ends z m) (suc n) h = rw (eq-eqb at end z, records_from, m)
-good {s} {at} {end} (goes hd a kids rest) (suc n) h =
-    let l = hd.low in
-    let m = hd.mid in
-    let k = hd.high in
-    rw (ne_eqb at end (λ e. omega (arith, e, l, m, k)), records_from, starts_at _ hd a, good kids n (omega (arith, l, m, k, h)), good rest n (omega (arith, l, m, k, h)))
-
-pub checked : {s : List ℕ} {at end : ℕ} {q : Pattern} → Fine s at end q → check_records s at end q ≡ Good
-unfolding check_records
-checked {at = at} {end = end} f = good f (suc (end - at)) (omega arith)
-
-pub fine_all : {s : List ℕ} {at end : ℕ} {q : Pattern} → check_records s at end q ≡ Good → Fine s at end q
-unfolding check_records
-fine_all {s} {at} {end} {q} e = fine (suc (end - at)) s at end q e
+use Rattle.sheet.proofs.Standing.{good, kept}
+use Rattle.contract_nodes.specs.Ready.{tree_at, Ready, ReadyAll, RecordStands, StandAll}
 
 -- THE LIMITS: fewer records before one do not make it over
 record Fewer (n m : Counts) : Type 0 where
@@ -58,7 +32,7 @@ none_fewer : (m : Counts) → Fewer none_before m
 none_fewer m = record { storage = omega arith; structs = omega arith; functions = omega arith }
 
 both_false : (a b : Bool) → a || b ≡ false → (a ≡ false) × (b ≡ false)
-both_false true b e = absurd (let z : ◌≡◌ {A = ℕ} 0 1 = cc in omega arith)
+both_false true b e = cc
 both_false false b e = (refl, e)
 
 one_false : (a : Bool) (most n m : ℕ) → n ≤ m → a && leb most m ≡ false → a && leb most n ≡ false
@@ -86,9 +60,9 @@ fewer_trees (tcons t ts) d {n} {m} f e =
     rw (fewer_tree t d f g.0) (fewer_trees ts d (fewer_this t f) g.1)
 
 -- A RECORD
-pub ready : {c : Class} {s : List ℕ} {at d : ℕ} → Stands c s at d → Ready c s at d
+pub ready : {c : Class} {s : List ℕ} {at d : ℕ} → RecordStands c s at d → Ready c s at d
 unfolding node_of
-ready {c} {s} {at} {d} z = go (one_step c done (fine_all z.0))
+ready {c} {s} {at} {d} z = go (one_step c done (kept z.0))
   where
     go : One s at (stop_of s at) c done → Ready c s at d
     go (this hd kids rest) = record {
@@ -102,13 +76,13 @@ ready {c} {s} {at} {d} z = go (one_step c done (fine_all z.0))
       limit = z.2;
     }
 
-pub stands : {c : Class} {s : List ℕ} {at d : ℕ} → Ready c s at d → Stands c s at d
+pub stands : {c : Class} {s : List ℕ} {at d : ℕ} → Ready c s at d → RecordStands c s at d
 unfolding after may_end
 stands {c} {s} {at} {d} r =
     let n = r.node_at in
     let e : r.depth ≡ 41 - d = omega (arith, r.sum) in
     let h : Head s at (stop_of s at) n.class n.fields n.pattern _ (stop_of s at) = record { is = n.head.is; stop_is = n.head.stop_is; valid = n.head.valid; body_is = n.head.body_is; low = n.head.low; mid = n.head.mid; high = omega arith } in (
-      checked (goes {r = done} h (rw (r.class_is, eq-eqb (class_no c) (class_no c) refl)) n.kids (ends refl refl)),
+      good (goes {r = done} h (rw (r.class_is, eq-eqb (class_no c) (class_no c) refl)) n.kids (ends refl refl)),
       omega (arith, n.head.high, r.inside),
       subst (λ (x : ℕ). limit_tree (tree_at s at) x none_before ≡ Good) e (fewer_tree (tree_at s at) r.depth (none_fewer r.before) r.limit),
       omega (arith, r.sum),
@@ -116,12 +90,12 @@ stands {c} {s} {at} {d} r =
 
 -- RECORDS OF ONE CLASS
 pub ready_all : {c : Class} {s : List ℕ} {at end d : ℕ} → StandAll c s at end d → ReadyAll c s at end d
-ready_all {d = d} z = record { fine = fine_all z.0; inside = z.1; depth = 41 - d; sum = omega (arith, z.3); before = none_before; limit = z.2 }
+ready_all {d = d} z = record { fine = kept z.0; inside = z.1; depth = 41 - d; sum = omega (arith, z.3); before = none_before; limit = z.2 }
 
 pub stand_all : {c : Class} {s : List ℕ} {at end d : ℕ} → ReadyAll c s at end d → StandAll c s at end d
 stand_all {s = s} {at = at} {end = end} {d = d} r =
     let e : r.depth ≡ 41 - d = omega (arith, r.sum) in (
-      checked r.fine,
+      good r.fine,
       r.inside,
       subst (λ (x : ℕ). limit_trees (read_records s at end) x none_before ≡ Good) e (fewer_trees (read_records s at end) r.depth (none_fewer r.before) r.limit),
       omega (arith, r.sum),

@@ -7,20 +7,18 @@ use native.Mathlib.Omega.{arith}
 use lib.Dec.{eqb}
 use lib.ListN.{length}
 use borrow.Author.Tests.{eqb-true, eqb-false}
-use Rattle.std.proofs.Common.{Option as Maybe, None, Some, Result, Ok, Err, IsOk}
+use Rattle.std.proofs.Common.{Option as Maybe, None, Some}
 use Rattle.std.specs.Iterator.{MakesProgress, at_most}
 use Rattle.std.specs.Option.{MatchOption, IsSomeAnd, SomeIff}
 use Rattle.definitions.specs.Fields.{le}
 use Rattle.definitions.specs.Ast as ast
-use Rattle.definitions.specs.Grammar.{Class, Field, Pattern, done, one, many, rows}
+use Rattle.definitions.specs.Grammar.{Class, Field, Pattern, done, one, rows}
 use Rattle.definitions.specs.Records.{row_in, num_at, Tree, node, Trees}
 use Rattle.definitions.specs.ContractSheet.{expr_of, exprs_of, field_inits_of}
-use Rattle.definitions.specs.Lower.{count}
 use Rattle.definitions.proofs.Results.{by_test}
 use Rattle.definitions.proofs.Sheets.Lines.{OfRows, Given, by_lines}
-use Rattle.format.specs.Kinds.{Reads, expr_number, stmt_number}
-use Rattle.format.specs.Operators.{op_number}
-use Rattle.format.specs.declared.kinds.UnknownKind.{UnknownKind}
+use Rattle.format.specs.Kinds.{expr_number, stmt_number}
+use Rattle.format.specs.Operators.{operator_number}
 use Rattle.format.specs.declared.kinds.Expr.TheVariants as expr
 use Rattle.format.specs.declared.kinds.Expr as exprs
 use Rattle.format.specs.declared.kinds.Stmt.TheVariants as stmt
@@ -30,18 +28,23 @@ use Rattle.format.specs.declared.operators.BinOp.TheVariants as op
 use Rattle.ir.specs.Answers.{option_of}
 use Rattle.ir.specs.declared.Name.{Name}
 use Rattle.sheet.specs.Passed.{record_kind, stop_of, values_at}
+use Rattle.contract_nodes.specs.declared.contract.Function.{Function}
 use Rattle.contract_nodes.specs.declared.contract.Param.{Param}
-use Rattle.contract_nodes.specs.Ready.{expr_at, exprs_from, fields_from, function_at, params_from, Stands, StandAll, Ready, ReadyAll}
+use Rattle.contract_nodes.specs.declared.contract.Struct.{Struct}
+use Rattle.contract_nodes.specs.Ready.{expr_at, fields_from, function_at, params_from, RecordStands, StandAll, Ready, ReadyAll}
 use Rattle.contract_nodes.specs.Nodes.{opt_name, param_is}
-use Rattle.contract_nodes.proofs.Children.{by_row, all_of, named, More, more, End}
-use Rattle.contract_nodes.proofs.ExprPlaces.{ArgsAt, one_at}
-use Rattle.contract_nodes.proofs.Parts.{stop_is}
-use Rattle.contract_nodes.proofs.Standing.{ready_all, stands, stand_all}
-use Rattle.contract_nodes.proofs.Tops.{FunctionAt}
+use Rattle.contract_nodes.proofs.Children.{by_row, named, More, more, End}
+use Rattle.contract_nodes.proofs.ExprPlaces.{one_at}
+use Rattle.contract_nodes.proofs.Standing.{ready, ready_all, stands, stand_all}
+use Rattle.contract_nodes.proofs.Tops.{FunctionAt, StructAt, function_at_lem, struct_at}
+
+-- a record's stop, from the number that was read
+pub stop_is : (s : List ℕ) (at : ℕ) {n : ℕ} → n ≡ le 4 s at → at + n ≡ stop_of s at
+stop_is s at e = ap (λ (x : ℕ). at + x) e
 
 -- AT AN EQUAL PLACE
-pub stands_at : {c : Class} {s : List ℕ} {p x d : ℕ} → p ≡ x → Ready c s x d → Stands c s p d
-stands_at {c} {s} {d = d} e r = subst (λ (y : ℕ). Stands c s y d) (sym e) (stands r)
+pub stands_at : {c : Class} {s : List ℕ} {p x d : ℕ} → p ≡ x → Ready c s x d → RecordStands c s p d
+stands_at {c} {s} {d = d} e r = subst (λ (y : ℕ). RecordStands c s y d) (sym e) (stands r)
 
 pub all_to : {c : Class} {s : List ℕ} {at e x d : ℕ} → e ≡ x → ReadyAll c s at x d → StandAll c s at e d
 all_to {c} {s} {at} {d = d} z r = subst (λ (y : ℕ). StandAll c s at y d) (sym z) (stand_all r)
@@ -49,18 +52,7 @@ all_to {c} {s} {at} {d = d} z r = subst (λ (y : ℕ). StandAll c s at y d) (sym
 pub all_at : {c : Class} {s : List ℕ} {a at e x d : ℕ} → a ≡ at → e ≡ x → ReadyAll c s at x d → StandAll c s a e d
 all_at {c} {s} {e = e} {d = d} w z r = subst (λ (y : ℕ). StandAll c s y e d) (sym w) (all_to z r)
 
--- at most 16 expressions stand to an equal place
-pub args_few : {A : Type 0} {s : List ℕ} {at e d : ℕ} {t x : A} → e ≡ stop_of s at → ArgsAt s at d t x → count (exprs_from s (at + 8) e) ≤ 16
-args_few {s = s} {at = at} z g = rw z (omega (arith, g.few, g.count_is))
-
 -- KINDS: a record of a class has a number that is read as a kind
-pub is_ok : {K : Type 0} (number : K → ℕ) (n : ℕ) (r : Result K UnknownKind) → Reads number n r → (k : K) × (number k ≡ n) → IsOk r
-is_ok number n (Ok k) h w = refl
-is_ok number n (Err e) h w = absurd (h w.0 w.1)
-
-pub read_as : {K : Type 0} (number : K → ℕ) {n : ℕ} {k : K} {r : Result K UnknownKind} → r ≡ Ok k → Reads number n r → number k ≡ n
-read_as number {n} e h = subst (λ x. Reads number n x) e h
-
 abbrev ExprKind : Class → ℕ → List Field → Pattern → Type 0
 ExprKind c k fs p = (x : exprs.Expr) × (expr_number x ≡ k)
 
@@ -104,7 +96,7 @@ stmt_kind r = by_row StmtKind stmt_rows r
 
 -- an operator's number
 abbrev OpOf : ℕ → Type 0
-OpOf n = (x : BinOp) × (op_number x ≡ n)
+OpOf n = (x : BinOp) × (operator_number x ≡ n)
 
 or_above : (i n : ℕ) → i ≤ n → OpOf i → (i < n → OpOf n) → OpOf n
 or_above i n h x above = by_test (eqb n i) (λ q. (x.0, x.1 ∙ sym (eqb-true n i q))) (λ q. above (omega (arith, eqb-false n i q, h)))
@@ -155,20 +147,21 @@ pub first_param : (s : List ℕ) (at : ℕ) {n m : ℕ} (p : Param) → n ≡ su
 unfolding params_from
 first_param s at p e is = rw (e, is.0, is.1)
 
+-- WHAT STANDS in a function and in a struct of a contract
+abbrev pub FunctionHere : Function → Type 0
+FunctionHere f = FunctionAt f.contract.sheet.now f.at 39
+
+pub function_here : (f : Function) → FunctionHere f
+function_here f = function_at_lem (ready {d = 39} f.ready)
+
+pub struct_here : (x : Struct) → (n : ℕ) × StructAt x.contract.sheet.now x.at n
+struct_here x = struct_at (ready {d = 39} x.ready)
+
 -- how many parameters a function has
 pub params_count : {s : List ℕ} {at d : ℕ} → FunctionAt s at d → length (function_at s at).params ≡ le 2 s (at + 12)
 params_count {s} {at} F = ap length F.params ∙ params_length s (at + 14) (le 2 s (at + 12))
 
--- A STRUCT LITERAL: its name, and its fields to its end
-pub record LiteralAt (s : List ℕ) (at d : ℕ) : Type 0 where
-  pub fields : ReadyAll Class.field_init s (at + 8) (stop_of s at) (d - 1)
-  pub is : expr_at s at ≡ ast.Expr.StructLiteral at (le 2 s (at + 6)) (fields_from s (at + 8) (stop_of s at))
-
-pub literal_at : {s : List ℕ} {at d : ℕ} → Ready Class.expression s at d → record_kind s at ≡ 35 → LiteralAt s at d
-unfolding row_in rows expr_of
-literal_at r e = let n = named 65534 (many Class.field_init done) refl r e in record { fields = all_of n.kids; is = ap expr_of n.tree }
-
--- a field of it: its name, and an expression
+-- A FIELD of a struct literal: its name, and an expression
 abbrev IsField : Class → ℕ → List Field → Pattern → Type 0
 IsField c k fs p = k ≡ 6
 
@@ -215,12 +208,6 @@ name_or_none (Some n) None e = absurd e
 -- what is left behind the first of them, from an equal place
 pub all_from : {c : Class} {s : List ℕ} {a at e d : ℕ} → a ≡ at → ReadyAll c s at e d → StandAll c s a e d
 all_from {c} {s} {e = e} {d = d} w r = subst (λ (y : ℕ). StandAll c s y e d) (sym w) (stand_all r)
-
-pub below : {d e : ℕ} → e ≡ d - 1 → 1 ≤ d → e + 1 ≡ d
-below z h = omega (arith, z, h)
-
-pub below_two : {d e : ℕ} → e ≡ d - 2 → 2 ≤ d → e + 2 ≡ d
-below_two z h = omega (arith, z, h)
 
 -- A STEP of a walk over records: one stands at `at`, and its n bytes are passed
 pub record Stepped (c : Class) (s : List ℕ) (at end d n : ℕ) : Type 0 where

@@ -6,7 +6,7 @@ use Rattle.definitions.specs.Lower.{count}
 use Rattle.definitions.specs.Result.{Done}
 use Rattle.definitions.specs.ContractSheet.{read_contract, struct_of, op_of}
 use Rattle.sheet.specs.Passed.{stop_of}
-use Rattle.format.specs.Operators.{op_number}
+use Rattle.format.specs.Operators.{operator_number}
 use Rattle.contract_nodes.specs.Ready.{tree_at, expr_at, exprs_from, stmt_at, stmts_from, function_at, fields_from, params_from}
 use Rattle.ir.specs.declared.Name.{Name}
 use Rattle.contract_nodes.specs.declared.contract.Contract.{Contract}
@@ -88,7 +88,7 @@ expr_is p (expr.StorageRead n) = ast.Expr.StorageRead p n.0
 expr_is p (expr.MappingRead n e) = ast.Expr.MappingRead p n.0 (expr_in e)
 expr_is p (expr.FieldAccess n e) = ast.Expr.FieldAccess p n.0 (expr_in e)
 expr_is p (expr.StructLiteral n fs) = ast.Expr.StructLiteral p n.0 (fields_in fs)
-expr_is p (expr.Binary op l r) = ast.Expr.Binary p (op_of (op_number op)) (expr_in l) (expr_in r)
+expr_is p (expr.Binary op l r) = ast.Expr.Binary p (op_of (operator_number op)) (expr_in l) (expr_in r)
 expr_is p (expr.Call n es) = ast.Expr.Call p n.0 (exprs_in es)
 
 -- a part of it is of the same sheet, and one less deep
@@ -105,7 +105,7 @@ ExprParts e (expr.StructLiteral n fs) = (fs.contract.sheet.now ≡ e.contract.sh
 ExprParts e (expr.Binary op l r) = InExpr e l × InExpr e r
 ExprParts e (expr.Call n es) = (es.contract.sheet.now ≡ e.contract.sheet.now) × (es.depth + 1 ≡ e.depth) × (count_of (exprs_in es) ≤ 16)
 
--- the first of the expressions is taken
+-- the first of the expressions is taken. No record for what it has in common with a field's and a statement's: over three types of lists, it would take four numbers of each of two
 pub record FirstExpr (old new : Exprs) (e : Expr) : Type 0 where
   pub is : exprs_in old ≡ ast.econs (expr_in e) (exprs_in new)
   pub sheet : e.contract.sheet.now ≡ old.contract.sheet.now
@@ -136,9 +136,9 @@ TakesField old None new = fields_in old ≡ ast.fnil
 TakesField old (Some f) new = FirstField old new f
 
 -- a returned value
-abbrev pub returned : Option Expr → ast.OptExpr
-returned None = ast.absent
-returned (Some e) = ast.present (expr_in e)
+abbrev pub opt_expr_in : Option Expr → ast.OptExpr
+opt_expr_in None = ast.absent
+opt_expr_in (Some e) = ast.present (expr_in e)
 
 -- STATEMENTS: what a node is. The places of blocks are any.
 pub record IfIs (t : Stmt) (c : Expr) (a b : Stmts) : Type 0 where
@@ -156,7 +156,7 @@ StmtIs t (stmt.MappingWrite n k e) = stmt_in t ≡ ast.Stmt.MappingWrite t.at n.
 StmtIs t (stmt.If c a b) = IfIs t c a b
 StmtIs t (stmt.While c b) = (p : ℕ) × (stmt_in t ≡ ast.Stmt.While t.at (expr_in c) p (stmts_in b))
 StmtIs t (stmt.For n a e b) = (p : ℕ) × (stmt_in t ≡ ast.Stmt.For t.at n.0 (expr_in a) (expr_in e) p (stmts_in b))
-StmtIs t (stmt.Return e) = stmt_in t ≡ ast.Stmt.Return t.at (returned e)
+StmtIs t (stmt.Return e) = stmt_in t ≡ ast.Stmt.Return t.at (opt_expr_in e)
 StmtIs t (stmt.Emit n es) = stmt_in t ≡ ast.Stmt.Emit t.at n.0 (exprs_in es)
 StmtIs t (stmt.Expr e) = stmt_in t ≡ ast.Stmt.ExprStmt t.at (expr_in e)
 

@@ -62,8 +62,8 @@ abbrev pub fields_from : List ℕ → (at end : ℕ) → FieldInits
 fields_from s at end = field_inits_of (read_records s at end) (exprs_from s at end)
 
 -- THE SAME AS EQUATIONS, which a value can carry: a record of the class c stands at `at`, and its depth is 41 less d
-abbrev pub Stands : Class → List ℕ → (at d : ℕ) → Type 0
-Stands c s at d =
+abbrev pub RecordStands : Class → List ℕ → (at d : ℕ) → Type 0
+RecordStands c s at d =
     (check_records s at (stop_of s at) (one c done) ≡ Good) × (stop_of s at ≤ length s) × (limit_tree (tree_at s at) (41 - d) none_before ≡ Good) × (d ≤ 41)
 
 abbrev pub StandAll : Class → List ℕ → (at end d : ℕ) → Type 0

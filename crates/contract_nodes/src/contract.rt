@@ -2,7 +2,7 @@
 ghost use Rattle.std.specs.Prelude.{◌+◌, ◌*◌, ◌≤◌, length};
 ghost use Rattle.definitions.specs.Grammar.{Class};
 ghost use Rattle.sheet.specs.Passed.{ContractPassed};
-ghost use Rattle.contract_nodes.specs.Ready.{Stands};
+ghost use Rattle.contract_nodes.specs.Ready.{RecordStands};
 
 use crate::stmt::Stmts;
 use format::contract;
@@ -23,7 +23,7 @@ pub struct Contract<'a> {
 pub struct Struct<'a> {
     pub contract: Contract<'a>,
     pub at: usize,
-    pub ghost ready: { Stands Class.struct contract.sheet.now at 39 },
+    pub ghost ready: { RecordStands Class.struct contract.sheet.now at 39 },
 }
 
 // A function of it.
@@ -31,7 +31,7 @@ pub struct Struct<'a> {
 pub struct Function<'a> {
     pub contract: Contract<'a>,
     pub at: usize,
-    pub ghost ready: { Stands Class.function contract.sheet.now at 39 },
+    pub ghost ready: { RecordStands Class.function contract.sheet.now at 39 },
 }
 
 // A field of a struct, or a parameter of a function: its name, and its type's.

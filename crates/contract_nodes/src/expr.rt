@@ -1,6 +1,6 @@
 // Expressions.
 ghost use Rattle.definitions.specs.Grammar.{Class};
-ghost use Rattle.contract_nodes.specs.Ready.{Stands, StandAll};
+ghost use Rattle.contract_nodes.specs.Ready.{RecordStands, StandAll};
 
 use crate::contract::Contract;
 use format::operators::BinOp;
@@ -14,7 +14,7 @@ pub struct Expr<'a> {
     pub contract: Contract<'a>,
     pub at: usize,
     pub depth: usize,
-    pub ghost ready: { Stands Class.expression contract.sheet.now at depth },
+    pub ghost ready: { RecordStands Class.expression contract.sheet.now at depth },
 }
 
 // Expressions that stand from a place to an end: the arguments of a call or an event.
@@ -58,15 +58,16 @@ pub struct FieldInit<'a> {
 }
 
 impl<'a> Expr<'a> {
-    ghost use Rattle.std.specs.Prelude.{◌≡◌};
+    ghost use Rattle.std.specs.Prelude.{◌≡◌, ◌+◌, ◌≤◌, length};
     ghost use Rattle.format.specs.Kinds.{expr_number};
     ghost use Rattle.sheet.specs.Passed.{record_kind};
     ghost use Rattle.contract_nodes.specs.Ready.{expr_at};
+    ghost use Rattle.contract_nodes.specs.ByKind.{ExprByKind};
     ghost use Rattle.contract_nodes.specs.Nodes.{expr_in, expr_is, ExprParts};
 
     // The expression at a place.
     pub(crate) fn new(contract: Contract<'a>, at: usize, depth: usize) -> Self
-        requires { Stands Class.expression contract.sheet.now at depth }
+        requires { RecordStands Class.expression contract.sheet.now at depth }
         ensures is { expr_in result ≡ expr_at contract.entry.sheet.now at }
         ensures same_sheet { result.contract.sheet.now ≡ contract.entry.sheet.now }
         ensures depth { result.depth ≡ depth }
@@ -79,7 +80,10 @@ impl<'a> Expr<'a> {
     }
 
     fn kind(self) -> kinds::Expr
-        ensures { expr_number result ≡ record_kind self.entry.contract.sheet.now self.entry.at }
+        ensures is { expr_number result ≡ record_kind self.entry.contract.sheet.now self.entry.at }
+        ensures here { ExprByKind self.entry.contract.sheet.now self.entry.at self.entry.depth result }
+        ensures deep { 1 ≤ self.entry.depth }
+        ensures room { self.entry.at + 8 ≤ length self.entry.contract.sheet.now }
     {
         kinds::Expr::try_from(read_u16(self.contract.sheet, self.at + KIND)).unwrap()
     }
@@ -92,11 +96,12 @@ impl<'a> Expr<'a> {
     {
         let contract = self.contract;
         let s = contract.sheet;
+        let kind = self.kind();
         let name = Name::new(read_u16(s, self.at + contract::NAME));
         let at = self.at + contract::AFTER_NAME;
         let end = self.at + read(s, self.at, 4);
         let depth = self.depth - 1;
-        match self.kind() {
+        match kind {
             kinds::Expr::Int => ExprNode::Int(read(s, self.at + contract::NUMBER, 8)),
             kinds::Expr::Ident => ExprNode::Ident(name),
             kinds::Expr::StorageRead => ExprNode::StorageRead(name),

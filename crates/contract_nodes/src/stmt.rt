@@ -1,6 +1,6 @@
 // Statements.
 ghost use Rattle.definitions.specs.Grammar.{Class};
-ghost use Rattle.contract_nodes.specs.Ready.{Stands, StandAll};
+ghost use Rattle.contract_nodes.specs.Ready.{RecordStands, StandAll};
 
 use crate::contract::Contract;
 use crate::expr::{Expr, Exprs};
@@ -14,7 +14,7 @@ pub struct Stmt<'a> {
     pub contract: Contract<'a>,
     pub at: usize,
     pub depth: usize,
-    pub ghost ready: { Stands Class.statement contract.sheet.now at depth },
+    pub ghost ready: { RecordStands Class.statement contract.sheet.now at depth },
 }
 
 // Statements that stand from a place to an end: those of a function, an arm or a body.
@@ -48,11 +48,15 @@ impl<'a> Stmt<'a> {
     ghost use Rattle.std.specs.Prelude.{◌≡◌, ◌+◌, ◌≤◌, length};
     ghost use Rattle.definitions.specs.Fields.{le};
     ghost use Rattle.format.specs.Kinds.{stmt_number};
+    ghost use Rattle.format.specs.declared.kinds.Stmt.TheVariants as kind;
     ghost use Rattle.sheet.specs.Passed.{record_kind, stop_of};
+    ghost use Rattle.contract_nodes.specs.ByKind.{StmtByKind};
     ghost use Rattle.contract_nodes.specs.Nodes.{StmtIs, StmtParts};
 
     fn kind(self) -> kinds::Stmt
-        ensures { stmt_number result ≡ record_kind self.entry.contract.sheet.now self.entry.at }
+        ensures is { stmt_number result ≡ record_kind self.entry.contract.sheet.now self.entry.at }
+        ensures here { StmtByKind self.entry.contract.sheet.now self.entry.at self.entry.depth result }
+        ensures deep { 1 ≤ self.entry.depth }
     {
         kinds::Stmt::try_from(read_u16(self.contract.sheet, self.at + KIND)).unwrap()
     }
@@ -82,8 +86,9 @@ impl<'a> Stmt<'a> {
         let s = contract.sheet;
         let first = self.at + HEAD;
         let at = self.at + contract::AFTER_NAME;
+        let kind = self.kind();
         let depth = self.depth - 1;
-        match self.kind() {
+        match kind {
             kinds::Stmt::Let => StmtNode::Let(self.name(), Expr::new(contract, at, depth)),
             kinds::Stmt::Constrain => StmtNode::Constrain(Expr::new(contract, first, depth)),
             kinds::Stmt::Assign => StmtNode::Assign(self.name(), Expr::new(contract, at, depth)),
@@ -120,7 +125,7 @@ impl<'a> Stmt<'a> {
 
     // An If: its condition, its block, and perhaps a second block.
     fn if_node(self) -> StmtNode<'a>
-        requires { record_kind self.contract.sheet.now self.at ≡ 15 }
+        requires { StmtByKind self.contract.sheet.now self.at self.depth kind.If }
         ensures is { StmtIs self.entry result }
         ensures parts { StmtParts self.entry result }
     {
@@ -139,7 +144,7 @@ impl<'a> Stmt<'a> {
 
     // A While: its condition and its block.
     fn while_node(self) -> StmtNode<'a>
-        requires { record_kind self.contract.sheet.now self.at ≡ 16 }
+        requires { StmtByKind self.contract.sheet.now self.at self.depth kind.While }
         ensures is { StmtIs self.entry result }
         ensures parts { StmtParts self.entry result }
     {
@@ -153,7 +158,7 @@ impl<'a> Stmt<'a> {
 
     // A For: its variable, where it starts, where it ends, and its block.
     fn for_node(self) -> StmtNode<'a>
-        requires { record_kind self.contract.sheet.now self.at ≡ 17 }
+        requires { StmtByKind self.contract.sheet.now self.at self.depth kind.For }
         ensures is { StmtIs self.entry result }
         ensures parts { StmtParts self.entry result }
     {

@@ -34,7 +34,7 @@ next : {A B : Type 0} (r : Result Refusal A) (k : Result Refusal B) → Other r 
 next (ok a) k h g = g
 next (err x) k h g = h
 
-checks : (t : Bool) (f g : records.Form) → Other (check t (refusal 1 []) >> (refuse_form 3 f >> refuse_form 4 g))
+checks : (t : Bool) (f g : records.Verdict) → Other (check t (refusal 1 []) >> (refuse_form 3 f >> refuse_form 4 g))
 checks false f g = λ q. omega arith
 checks true (records.Bad p) g = λ q. omega arith
 checks true records.Good (records.Bad p) = λ q. omega arith

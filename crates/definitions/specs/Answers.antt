@@ -8,7 +8,7 @@ use Rattle.definitions.specs.Ir.{IrType, tag_of, name_of}
 use Rattle.definitions.specs.Lower.{LoweringError, lower_contract}
 use Rattle.definitions.specs.Analyze.{SemaError, analyze}
 use Rattle.definitions.specs.Verify.{VerifyError, verify_program}
-use Rattle.definitions.specs.Records.{Form, Good, Bad}
+use Rattle.definitions.specs.Records.{Verdict, Good, Bad}
 use Rattle.definitions.specs.ContractSheet.{read_contract, refusal3, refusal4}
 use Rattle.definitions.specs.ProgramSheet.{write_program, read_program, refusal40}
 
@@ -36,7 +36,7 @@ padded (suc n) [] = 0 ∷ padded n []
 padded (suc n) (x ∷ l) = x ∷ padded n l
 
 -- 3, 4 and 40 have the place
-abbrev pub refuse_form : ℕ → Form → Result Refusal Done
+abbrev pub refuse_form : ℕ → Verdict → Result Refusal Done
 refuse_form k Good = ok tt
 refuse_form k (Bad place) = err (refusal k (place ∷ []))
 

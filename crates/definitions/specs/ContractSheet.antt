@@ -2,7 +2,7 @@
 use Rattle.std.specs.Prelude.{ℕ, suc, ◌+◌, Bool, false, ◌&&◌, ◌||◌, List, [], ◌∷◌, map, leb, eqb, length}
 use Rattle.definitions.specs.Ast.{BinOp, Expr, Exprs, enil, econs, FieldInits, fnil, fcons, OptExpr, absent, present, Stmt, Stmts, snil, scons, OptStmts, no_else, else_do, StorageField, Param, Struct, Function, Contract}
 use Rattle.definitions.specs.Grammar.{Class, one, done}
-use Rattle.definitions.specs.Records.{pick, Item, small, opt, word, ty, param, pair, FieldValue, item, group, rest, Tree, node, Trees, tnil, tcons, write_tree, read_records, Form, Good, Bad, and_then, check_records, items_at, num_at, opt_at, gather, treesOf, ReadsAll, u16}
+use Rattle.definitions.specs.Records.{pick, Item, small, opt, word, ty, param, pair, FieldValue, item, group, rest, Tree, node, Trees, tnil, tcons, write_tree, read_records, Verdict, Good, Bad, and_then, check_records, items_at, num_at, opt_at, gather, treesOf, ReadsAll, u16}
 
 -- READING, of a sheet that passed refusal 3. The last case of a chain of tests has none: a comment says for which kind it stands. No other kind is met
 -- there: it would be written back as that kind, and `NothingOverlooked`, at the end of this file, says that writing gives the very bytes that were read.
@@ -138,7 +138,7 @@ unfoldable pub read_contract : List ℕ → Contract
 read_contract s = contract_of (read_records s 0 (length s))
 
 -- REFUSAL 3: one contract and nothing after it
-unfoldable pub refusal3 : List ℕ → Form
+unfoldable pub refusal3 : List ℕ → Verdict
 refusal3 s = check_records s 0 (length s) (one Class.contract done)
 
 -- REFUSAL 4: the first record that is too many, too wide or too deep. Children come after their parent and before the next record,
@@ -194,15 +194,15 @@ over r = any_of (over_limits r)
 unfoldable mutual
   unfolding count_trees
 
-  pub limit_tree : Tree → (depth : ℕ) → Counts → Form
+  pub limit_tree : Tree → (depth : ℕ) → Counts → Verdict
   limit_tree (node at k v ts) depth before =
       pick (over (record { kind = k; fields = v; children = count_trees ts; depth = depth; before = before })) (Bad at) (limit_trees ts (suc depth) none_before)
 
-  pub limit_trees : Trees → (depth : ℕ) → Counts → Form
+  pub limit_trees : Trees → (depth : ℕ) → Counts → Verdict
   limit_trees tnil depth before = Good
   limit_trees (tcons t ts) depth before = and_then (limit_tree t depth before) (limit_trees ts depth (and_this t before))
 
-unfoldable pub refusal4 : List ℕ → Form
+unfoldable pub refusal4 : List ℕ → Verdict
 refusal4 s = limit_trees (read_records s 0 (length s)) 1 none_before
 
 -- WRITING

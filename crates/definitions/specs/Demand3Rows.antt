@@ -12,7 +12,7 @@ use Rattle.definitions.specs.Lower.{lower_contract}
 use Rattle.definitions.specs.ContractSheet.{read_contract, write_contract, refusal3, NothingOverlooked}
 use Rattle.definitions.specs.Run.{then_way, else_way, Pick, lacks, run}
 use Rattle.definitions.specs.ProgramSheet.{read_program, write_program, refusal40, NothingOverlookedInPrograms}
-use Rattle.definitions.specs.Records.{Form, Good, ReadsAll}
+use Rattle.definitions.specs.Records.{Verdict, Good, ReadsAll}
 use Rattle.definitions.specs.Answers.{Refusal, refusal, Answer, lower_sheet, verify_sheet}
 use Rattle.definitions.specs.Demand3.{NeverLacks, AcceptedOr45to47, Demand3For, Demand3}
 use Rattle.definitions.specs.RunRows.{block, gives, seven, function_made, ends, five, six}
@@ -148,7 +148,7 @@ OfLowerSheet = Demand3 → Demand3For lower_sheet
 -- WHAT THE OTHER TWO STATEMENTS GIVE, whatever the check, the reading and the writing are; and that they are those of 3 and of 40
 abbrev pub GivesSheet : Type 1
 GivesSheet =
-    (A : Type 0) (check : List ℕ → Form) (read : List ℕ → A) (write : A → List ℕ) → ReadsAll check read write
+    (A : Type 0) (check : List ℕ → Verdict) (read : List ℕ → A) (write : A → List ℕ) → ReadsAll check read write
     → (s : List ℕ) → All (λ (x : ℕ). x < 256) s → check s ≡ Good → write (read s) ≡ s
 
 abbrev pub GivesContractSheet : Type 0

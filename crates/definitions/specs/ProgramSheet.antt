@@ -5,7 +5,7 @@ use Rattle.definitions.specs.Ast.{BinOp}
 use Rattle.definitions.specs.Ir.{IrType, Instruction, Terminator, InstrNode, BasicBlock, IrFunction, IrProgram}
 use Rattle.definitions.specs.InstrTable.{kind_of}
 use Rattle.definitions.specs.Grammar.{Class, one, done, origin_width}
-use Rattle.definitions.specs.Records.{pick, Item, small, opt, word, ty, param, FieldValue, item, group, rest, Tree, node, Trees, tnil, tcons, write_tree, read_records, Form, check_records, number_of, type_of, items_at, num_at, type_at, opt_at, gather, treesOf, ReadsAll, u16}
+use Rattle.definitions.specs.Records.{pick, Item, small, opt, word, ty, param, FieldValue, item, group, rest, Tree, node, Trees, tnil, tcons, write_tree, read_records, Verdict, check_records, number_of, type_of, items_at, num_at, type_at, opt_at, gather, treesOf, ReadsAll, u16}
 
 -- WRITING. A record that is written has no place yet: 0 stands for it.
 abbrev unplaced : ℕ → List FieldValue → Trees → Tree
@@ -149,7 +149,7 @@ unfoldable pub read_program : List ℕ → IrProgram
 read_program s = program_of (read_records s 0 (length s))
 
 -- REFUSAL 40: one program and nothing after it
-unfoldable pub refusal40 : List ℕ → Form
+unfoldable pub refusal40 : List ℕ → Verdict
 refusal40 s = check_records s 0 (length s) (one Class.program done)
 
 -- NOTHING IS OVERLOOKED: a sheet that passes refusal 40 is, byte for byte, the writing of the program that is read from it

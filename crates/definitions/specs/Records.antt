@@ -189,26 +189,26 @@ start_at s at end q =
     nothing)
     nothing
 
-pub data Form : Type 0 where
-  Good : Form
-  Bad : (place : ℕ) → Form
+pub data Verdict : Type 0 where
+  Good : Verdict
+  Bad : (place : ℕ) → Verdict
 
-unfoldable pub and_then : Form → Form → Form
+unfoldable pub and_then : Verdict → Verdict → Verdict
 and_then Good a = a
 and_then (Bad p) a = Bad p
 
-unfoldable pub check_rest : (ℕ → ℕ → Pattern → Form) → ℕ → ℕ → Start → Form
+unfoldable pub check_rest : (ℕ → ℕ → Pattern → Verdict) → ℕ → ℕ → Start → Verdict
 check_rest f at end nothing = Bad at
 check_rest f at end (starts body stop p q) = and_then (f body stop p) (f stop end q)
 
 -- The records from `at` to `end` follow q, each with its children: first those, then what stands after it. So the first place found
 -- bad is the lowest. The first number only bounds the calls: each record takes at least 6 of the `end - at` bytes.
-unfoldable pub records_from : ℕ → List ℕ → ℕ → ℕ → Pattern → Form
+unfoldable pub records_from : ℕ → List ℕ → ℕ → ℕ → Pattern → Verdict
 records_from zero s at end q = Bad at
 records_from (suc n) s at end q =
     pick (eqb at end) (pick (may_end q) Good (Bad at)) (check_rest (records_from n s) at end (start_at s at end q))
 
-unfoldable pub check_records : List ℕ → ℕ → ℕ → Pattern → Form
+unfoldable pub check_records : List ℕ → ℕ → ℕ → Pattern → Verdict
 check_records s at end q = records_from (suc (end - at)) s at end q
 
 -- TREES OF RECORDS: the place at which a record was read, its kind, its fields, its children
@@ -313,5 +313,5 @@ treesOf f (a ∷ more) ts = tcons (f a) (treesOf f more ts)
 
 -- NOTHING IS OVERLOOKED by a way of checking, reading and writing sheets: a sheet that passes is, byte for byte, the writing of what is read
 -- from it. `NothingOverlooked` of ContractSheet and `NothingOverlookedInPrograms` of ProgramSheet say so of the two sheets.
-abbrev pub ReadsAll : {A : Type 0} → (List ℕ → Form) → (List ℕ → A) → (A → List ℕ) → Type 0
+abbrev pub ReadsAll : {A : Type 0} → (List ℕ → Verdict) → (List ℕ → A) → (A → List ℕ) → Type 0
 ReadsAll check read write = (s : List ℕ) → Bytes s → check s ≡ Good → write (read s) ≡ s

@@ -1,5 +1,4 @@
-// A number in decimal digits, as bytes of any slice. Nothing reads it now (crates/line_text needs all digits of a number, and no last ones): it stays for
-// its promise and the two wrong programs of must-fail/, which no other code states.
+// A number in decimal digits, as bytes of any slice.
 #![tactic(auto)]
 
 ghost use Rattle.std.specs.Prelude.{◌+◌, ◌≤◌, length};

@@ -1,6 +1,6 @@
 -- The numbers of what a ContextRead can read (document 01, "Program sheet"). Assumes nothing: these are definitions.
 use Rattle.std.specs.Prelude.{ℕ, Result}
-use Rattle.format.specs.Kinds.{Reads}
+use Rattle.format.specs.Kinds.{ReadsNumber}
 use Rattle.format.specs.declared.kinds.UnknownKind.{UnknownKind}
 use Rattle.format.specs.declared.program.ContextKind.{ContextKind}
 use Rattle.format.specs.declared.program.ContextKind.TheVariants.{MsgSender, MsgNonce, BlockNumber}
@@ -11,4 +11,4 @@ context_number MsgNonce = 1
 context_number BlockNumber = 2
 
 abbrev pub IsContextKind : ℕ → Result ContextKind UnknownKind → Type 0
-IsContextKind = Reads context_number
+IsContextKind = ReadsNumber context_number

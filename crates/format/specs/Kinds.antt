@@ -79,40 +79,40 @@ abbrev pub in_block_number : InBlock → ℕ
 in_block_number (inBlock.Instruction i) = instr_number i
 in_block_number (inBlock.Terminator t) = term_number t
 
-abbrev pub number_of : Kind → ℕ
-number_of kind.Contract = 1
-number_of (kind.Item i) = item_number i
-number_of kind.Block = 5
-number_of kind.FieldInit = 6
-number_of (kind.Stmt s) = stmt_number s
-number_of (kind.Expr e) = expr_number e
-number_of kind.Program = 50
-number_of kind.IrFunction = 51
-number_of kind.FunctionName = 52
-number_of kind.BasicBlock = 53
-number_of (kind.InBlock b) = in_block_number b
+abbrev pub kind_number : Kind → ℕ
+kind_number kind.Contract = 1
+kind_number (kind.Item i) = item_number i
+kind_number kind.Block = 5
+kind_number kind.FieldInit = 6
+kind_number (kind.Stmt s) = stmt_number s
+kind_number (kind.Expr e) = expr_number e
+kind_number kind.Program = 50
+kind_number kind.IrFunction = 51
+kind_number kind.FunctionName = 52
+kind_number kind.BasicBlock = 53
+kind_number (kind.InBlock b) = in_block_number b
 
 -- what a number is read as: the kind whose number it is, or nothing if there is none
-abbrev pub Reads : {K : Type 0} → (K → ℕ) → ℕ → Result K UnknownKind → Type 0
-Reads {K = K} number n r = MatchResult r (λ k. number k ≡ n) (λ _. (k : K) → number k ≡ n → ⊥)
+abbrev pub ReadsNumber : {K : Type 0} → (K → ℕ) → ℕ → Result K UnknownKind → Type 0
+ReadsNumber {K = K} number n r = MatchResult r (λ k. number k ≡ n) (λ _. (k : K) → number k ≡ n → ⊥)
 
 abbrev pub IsItem : ℕ → Result Item UnknownKind → Type 0
-IsItem = Reads item_number
+IsItem = ReadsNumber item_number
 
 abbrev pub IsStmt : ℕ → Result Stmt UnknownKind → Type 0
-IsStmt = Reads stmt_number
+IsStmt = ReadsNumber stmt_number
 
 abbrev pub IsExpr : ℕ → Result Expr UnknownKind → Type 0
-IsExpr = Reads expr_number
+IsExpr = ReadsNumber expr_number
 
 abbrev pub IsInstruction : ℕ → Result Instruction UnknownKind → Type 0
-IsInstruction = Reads instr_number
+IsInstruction = ReadsNumber instr_number
 
 abbrev pub IsTerminator : ℕ → Result Terminator UnknownKind → Type 0
-IsTerminator = Reads term_number
+IsTerminator = ReadsNumber term_number
 
 abbrev pub IsInBlock : ℕ → Result InBlock UnknownKind → Type 0
-IsInBlock = Reads in_block_number
+IsInBlock = ReadsNumber in_block_number
 
 abbrev pub IsKind : ℕ → Result Kind UnknownKind → Type 0
-IsKind = Reads number_of
+IsKind = ReadsNumber kind_number

@@ -1,5 +1,5 @@
 // Where the fields of a contract sheet's records stand, and what a contract may have at most.
-use crate::{HEAD, ID};
+use crate::{COUNT, HEAD, ID};
 
 // A record's name, if it has one, its fields or operator, and what follows it.
 pub const NAME: usize = HEAD;
@@ -22,7 +22,7 @@ pub const RETURN_TYPE: usize = HEAD + ID;
 
 pub const PARAM_COUNT: usize = HEAD + 3 * ID;
 
-pub const PARAMS: usize = PARAM_COUNT + 2;
+pub const PARAMS: usize = PARAM_COUNT + COUNT;
 
 // An Int: its number.
 pub const NUMBER: usize = HEAD;

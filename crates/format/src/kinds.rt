@@ -251,7 +251,7 @@ impl TryFrom<u16> for Kind {
 }
 
 impl From<Kind> for u16 {
-    ghost from_gives = { λ kind number. number ≡ numbers.number_of kind };
+    ghost from_gives = { λ kind number. number ≡ numbers.kind_number kind };
 
     fn from(kind: Kind) -> u16 {
         match kind {

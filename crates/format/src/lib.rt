@@ -12,18 +12,20 @@ pub const MOST: usize = 32768;
 // What stands in place of an id or a name that is absent, and the highest id or name.
 pub const ABSENT: u16 = 65535;
 
-pub const HIGHEST_ID: usize = 65534;
+pub const HIGHEST_ID: usize = ABSENT as usize - 1;
 
 // A record's head: its length, four bytes at its first, and its kind, two.
 pub const KIND: usize = 4;
 
 pub const HEAD: usize = 6;
 
-// The bytes of a record's length, of a count, of an id or a name, and of a type.
+// The bytes of a record's length, of a count, of an id or a name, and of a type: its tag, then a name.
 pub const LENGTH_BYTES: usize = 4;
 
 pub const COUNT: usize = 2;
 
 pub const ID: usize = 2;
 
-pub const TYPE: usize = 4;
+pub const TAG: usize = 2;
+
+pub const TYPE: usize = TAG + ID;

@@ -2,7 +2,7 @@
 ghost use Rattle.format.specs.Contexts as numbers;
 
 use crate::kinds::UnknownKind;
-use crate::{HEAD, ID, TYPE};
+use crate::{COUNT, HEAD, ID, TYPE};
 
 // The program: its functions, then their names.
 pub const FUNCTIONS: usize = HEAD;
@@ -17,7 +17,7 @@ pub const RETURN_TYPE: usize = HEAD + 2 * ID;
 
 pub const PARAM_COUNT: usize = RETURN_TYPE + TYPE;
 
-pub const PARAMS: usize = PARAM_COUNT + 2;
+pub const PARAMS: usize = PARAM_COUNT + COUNT;
 
 pub const PARAM_TYPE: usize = ID;
 
@@ -95,6 +95,8 @@ pub const CALL_ARGS: usize = CALL_TYPE + TYPE;
 pub const ASSERTED: usize = OWN;
 
 pub const POSEIDON_LEFT: usize = OWN;
+
+pub const POSEIDON_RIGHT: usize = OWN + ID;
 
 pub const EVENT: usize = OWN;
 

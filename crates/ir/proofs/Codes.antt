@@ -1,29 +1,13 @@
 -- A type by its tag and name, and its four bytes. Assumes nothing.
 use mathlib.Core.Path.{◌≡◌, refl}
 use mathlib.Core.List.{◌++◌}
-use Prim.Native.Nat.{ℕ, ◌+◌, ◌*◌, ◌/◌, ◌%◌, ◌≤◌, ◌<◌}
+use Prim.Native.Nat.{ℕ, ◌+◌, ◌*◌, ◌/◌, ◌%◌, ◌<◌}
 use native.Mathlib.Omega.{arith}
 use Rattle.definitions.specs.Fields.{bytes}
-use Rattle.definitions.specs.Ir as defs
 use Rattle.definitions.specs.Ir.{tag_of, name_of}
-use Rattle.definitions.specs.Records.{type_from, write_type}
+use Rattle.definitions.specs.Records.{write_type}
 use Rattle.ir.specs.declared.IrType.{IrType}
 use Rattle.ir.specs.Types.{as_type, Coded}
-
-pub type_back : (t : defs.IrType) → type_from (tag_of t) (name_of t) ≡ t
-unfolding type_from
-type_back defs.IrType.U64 = refl
-type_back defs.IrType.BoolT = refl
-type_back defs.IrType.FieldT = refl
-type_back (defs.IrType.Struct n) = refl
-type_back defs.IrType.Void = refl
-
-pub tag_low : (t : defs.IrType) → tag_of t ≤ 4
-tag_low defs.IrType.U64 = omega arith
-tag_low defs.IrType.BoolT = omega arith
-tag_low defs.IrType.FieldT = omega arith
-tag_low (defs.IrType.Struct n) = omega arith
-tag_low defs.IrType.Void = omega arith
 
 two_and_two : (t n : ℕ) → t < 65536 → bytes 4 (t + 65536 * n) ≡ bytes 2 t ++ bytes 2 n
 unfolding bytes

@@ -1,3 +1,2 @@
-pub mod Table
 pub mod Codes
 pub mod Exits

@@ -11,6 +11,7 @@ ghost use Rattle.definitions.specs.InstrTable.{kind_row};
 ghost use Rattle.format.specs.Kinds.{instr_number};
 ghost use Rattle.ir.specs.Kinds.{rule_of, effect_of, rule_in, effect_in};
 
+use format::ABSENT;
 use format::kinds::Instruction;
 
 // A name. Equal numbers stand for equal strings.
@@ -102,7 +103,7 @@ pub const STRUCT_CODE: usize = 3;
 pub const VOID_CODE: usize = 4;
 
 // What stands in place of a code where there is no type, in the numbers of a refusal: the C interface and the printed lines have numbers alone.
-pub const NO_TYPE: usize = 65535;
+pub const NO_TYPE: usize = ABSENT as usize;
 
 impl IrType {
     // The type of a tag and a name.

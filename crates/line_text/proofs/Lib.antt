@@ -1,4 +1,3 @@
-mod Placed
 mod Spaced
 pub mod Zeros
 mod Hexed

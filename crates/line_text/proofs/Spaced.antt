@@ -1,9 +1,8 @@
 -- One number after another: a front with the rest of the line behind it is the whole line. Assumes nothing.
 use Rattle.std.proofs.Common.{◌≡◌, ℕ, ◌+◌, ◌<◌, ◌≤◌, List, [], ◌∷◌, ◌++◌, length, take, drop, refl, sym, ap, ◌∙◌, arith, append_assoc, length-drop}
-use native.Mathlib.Numerals.{add-one}
 use lib.ListN.{get_or, set}
-use lib.Seq.{drop-cons, drop-length}
-use Rattle.std.proofs.lemmas.List.{take_more_set}
+use lib.Seq.{drop-length}
+use Rattle.std.proofs.lemmas.List.{drop_more, take_more_set}
 use Rattle.definitions.specs.Lines.{decimal, spaced, line_of}
 use Rattle.line_text.specs.Lined.{Begins}
 
@@ -20,7 +19,7 @@ first number details front e = ap (λ (f : List ℕ). f ++ spaced details) e
 pub next : (line details front : List ℕ) (i : ℕ) → i < length details → Goes line details front i → Goes line details ((front ++ (32 ∷ [])) ++ decimal (get_or details i 0)) (i + 1)
 unfolding spaced
 next line details front i h g =
-    let rest : drop i details ≡ get_or details i 0 ∷ drop (i + 1) details = rw add-one (drop-cons details i 0 h) in
+    let rest : drop i details ≡ get_or details i 0 ∷ drop (i + 1) details = drop_more details i 0 h in
     append_assoc (front ++ (32 ∷ [])) (decimal (get_or details i 0)) (spaced (drop (i + 1) details)) ∙ append_assoc front (32 ∷ []) (decimal (get_or details i 0) ++ spaced (drop (i + 1) details)) ∙ ap (λ (r : List ℕ). front ++ spaced r) (sym rest) ∙ g
 
 -- the line feed at the end

@@ -1,13 +1,6 @@
 -- A line at the start of a text. Assumes nothing: these are definitions.
-use Rattle.std.specs.Prelude.{ℕ, ◌+◌, ◌≤◌, ◌≡◌, List, ◌++◌, length, take}
+use Rattle.std.specs.Prelude.{ℕ, ◌≤◌, ◌≡◌, List, length, take}
 use Rattle.definitions.specs.Answers.{padded}
-use Rattle.definitions.specs.Lines.{decimal}
-
--- the digits of a number stand from `at` to r, behind what stood there
-pub record NumberPut (number : ℕ) (before : List ℕ) (at : ℕ) (after : List ℕ) (r : ℕ) : Type 0 where
-  pub front : take r after ≡ take at before ++ decimal number
-  pub same_length : length after ≡ length before
-  pub short : r ≤ at + 20
 
 -- the first r bytes are the line, and there are 128 of them at most
 pub record Begins (line before after : List ℕ) (r : ℕ) : Type 0 where

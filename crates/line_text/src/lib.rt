@@ -4,26 +4,15 @@
 ghost use Rattle.std.specs.Prelude.{◌≡◌, ◌+◌, ◌*◌, ◌≤◌, ◌<◌, length};
 ghost use Rattle.definitions.specs.Result.{ok};
 ghost use Rattle.definitions.specs.Lines.{hex_digit, hexed, line_of, lowered_line};
-ghost use Rattle.line_text.specs.Lined.{NumberPut, Begins, Lined};
+ghost use Rattle.line_text.specs.Lined.{Begins, Lined};
 
-use itoa::Buffer;
+use digits::put_digits;
 use numbers::Numbers;
+use writer::clear;
 
 const SPACE: u8 = b' ';
 
 const LINE_FEED: u8 = b'\n';
-
-// Puts a number at a place of `out`, in decimal, and gives the place behind it. All of its digits, where `digits::put_digits` puts the last few.
-fn put_number(number: usize, out: &mut [u8], at: usize) -> usize
-    requires { at + 20 ≤ length out.old }
-    ensures { NumberPut number out.old at out.new result }
-{
-    let mut buffer = Buffer::new();
-    let text = buffer.format(number).as_bytes();
-    let end = at + text.len();
-    out[at..end].copy_from_slice(text);
-    end
-}
 
 // Puts the line of the numbers at the start of `out`: in decimal, separated by single spaces, or `OK` if there are none. Gives the line's length.
 fn put_numbers(numbers: &[usize], out: &mut [u8]) -> usize
@@ -34,10 +23,10 @@ fn put_numbers(numbers: &[usize], out: &mut [u8]) -> usize
         out[..3].copy_from_slice(b"OK\n");
         return 3;
     };
-    let mut at = put_number(*first, out, 0);
+    let mut at = put_digits(out, 0, digits::MOST, *first);
     for detail in details {
         out[at] = SPACE;
-        at = put_number(*detail, out, at + 1);
+        at = put_digits(out, at + 1, digits::MOST, *detail);
     }
     out[at] = LINE_FEED;
     at + 1
@@ -49,7 +38,7 @@ pub fn put_line(numbers: &Numbers, out: &mut [u8]) -> usize
     ensures { Lined (length out.old) (line_of numbers.now) out.new result }
 {
     let end = put_numbers(numbers.as_slice(), out);
-    out[end..].fill(0);
+    clear(out, end);
     end
 }
 
@@ -84,6 +73,6 @@ pub fn accepted_line(sheet: &[u8], text: &mut [u8]) -> usize
     text[..2].copy_from_slice(b"OK");
     put_hex(sheet, &mut text[2..end]);
     text[end] = LINE_FEED;
-    text[end + 1..].fill(0);
+    clear(text, end + 1);
     end + 1
 }

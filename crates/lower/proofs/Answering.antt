@@ -2,7 +2,7 @@
 use Rattle.std.specs.Prelude as code
 use Rattle.std.specs.Prelude.{None, Some}
 use mathlib.Core.Path.{◌≡◌, refl, sym, ap, ◌∙◌, subst}
-use mathlib.Core.List.{List, [], ◌∷◌, ◌++◌, append_assoc}
+use mathlib.Core.List.{List, [], ◌++◌}
 use Prim.Native.Nat.{ℕ, ◌-◌, ◌≤◌}
 use native.Mathlib.Omega.{arith}
 use lib.ListN.{length, take, replicate}
@@ -12,15 +12,16 @@ use Rattle.definitions.specs.Result.{err, ok}
 use Rattle.definitions.specs.Ast.{Contract}
 use Rattle.definitions.specs.Ir.{IrFunction}
 use Rattle.definitions.specs.Lower.{lower_functions, lower_contract, function_names}
-use Rattle.definitions.specs.Records.{Tree, Trees, tnil, treesOf, write_record, write_tree, write_trees, write_values}
+use Rattle.definitions.specs.Records.{tnil, treesOf, write_record, write_tree, write_trees, write_values}
 use Rattle.definitions.specs.ProgramSheet.{ir_function_tree, function_name_tree, write_program}
 use Rattle.definitions.specs.ContractSheet.{read_contract}
 use Rattle.definitions.specs.Answers as answers
-use Rattle.definitions.specs.Answers.{Refusal, check_contract, lower_sheet, length_of, output_of, padded}
+use Rattle.definitions.specs.Answers.{Refusal, check_contract, lower_sheet, output_of}
 use Rattle.definitions.specs.Demand3.{Demand3Of}
 use Rattle.definitions.proofs.Demand3.{demand3}
 use Rattle.definitions.proofs.Results.{ok_inj, err_ok, take_padded}
 use Rattle.lower_state.specs.declared.refusals.LoweringError.{LoweringError}
+use Rattle.lower_walk.proofs.Trees.{trees_front}
 use Rattle.lower_layout.specs.Laid.{Laid}
 use Rattle.lower_layout.proofs.Storing.{laid_then, laid_lost}
 use Rattle.lower_name_table.specs.NameTable.{names_of}
@@ -31,17 +32,12 @@ use Rattle.writer.proofs.Stores.{then_zeros}
 use Rattle.lower.proofs.Fill.{refused_31, accepted}
 
 -- THE PROGRAM'S RECORD
-trees_more : {A : Type 0} (f : A → Tree) (xs : List A) (ts : Trees) → write_trees (treesOf f xs ts) ≡ write_trees (treesOf f xs tnil) ++ write_trees ts
-unfolding write_trees
-trees_more f [] ts = refl
-trees_more f (a ∷ more) ts = ap (λ (l : List ℕ). write_tree (f a) ++ l) (trees_more f more ts) ∙ sym (append_assoc (write_tree (f a)) (write_trees (treesOf f more tnil)) (write_trees ts))
-
 abbrev body_of : List IrFunction → List (ℕ × ℕ) → List ℕ
 body_of gs names = write_trees (treesOf ir_function_tree gs tnil) ++ write_trees (treesOf function_name_tree names tnil)
 
 program_is : (gs : List IrFunction) (names : List (ℕ × ℕ)) → write_program (record { functions = gs; function_names = names }) ≡ write_record 50 (body_of gs names)
 unfolding write_program write_tree write_values
-program_is gs names = ap (write_record 50) (trees_more ir_function_tree gs (treesOf function_name_tree names tnil))
+program_is gs names = ap (write_record 50) (trees_front ir_function_tree gs (treesOf function_name_tree names tnil))
 
 module _ (K : Contract) where
   -- the functions and the names are laid down, or something did not fit

@@ -1,7 +1,7 @@
 // Lowering: from any bytes to a program sheet or one numbered refusal.
 #![tactic(auto)]
 
-ghost use Rattle.std.specs.Prelude.{◌≡◌, ℕ, ◌≤◌, length, take, IfOk};
+ghost use Rattle.std.specs.Prelude.{◌≡◌, length, take, IfOk};
 ghost use Rattle.definitions.specs.Answers.{lower_sheet, length_of, output_of};
 ghost use Rattle.definitions.specs.Demand3.{Demand3Of};
 ghost use Rattle.contract_nodes.specs.Nodes.{contract_in, function_in};

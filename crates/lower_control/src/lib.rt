@@ -1,12 +1,12 @@
 // The blocks of If, While and For.
 #![tactic(auto)]
 
-ghost use Rattle.std.specs.Prelude.{◌≡◌, ◌<◌, IfErr};
+ghost use Rattle.std.specs.Prelude.{◌≡◌, ◌<◌, IfOk, IfErr};
 ghost use Rattle.contract_nodes.specs.Nodes.{contract_in, expr_in};
 ghost use Rattle.lower_walk.specs.Stmts.{enter_if, enter_while, two_locals, for_locals, for_header, for_blocks, for_next, for_step, switch_to};
-ghost use Rattle.lower_walk.specs.Grown.{Grown};
+ghost use Rattle.lower_walk.specs.Grown.{Grown, LocalMade};
 ghost use Rattle.lower_state.specs.Answers.{with_state};
-ghost use Rattle.lower_state.specs.State.{blocks_of};
+ghost use Rattle.lower_state.specs.State.{blocks_of, BlocksMade};
 ghost use Rattle.lower_control.specs.Bounds.{bounds_of};
 
 use contract_nodes::Expr;
@@ -16,7 +16,7 @@ use lower_emit::{emit_binary, emit_const, emit_read_local, emit_write_local};
 use lower_exprs::lower_expr_value;
 use lower_flow::{branch, init_local, jump};
 use lower_names::Scopes;
-use lower_state::{Blocks, FnCtx, LoweringError};
+use lower_state::{FnCtx, LoweringError, ThreeBlocks};
 
 // The two locals of a For: its variable, and the end that it is compared with.
 #[derive(Clone, Copy, Debug)]
@@ -26,8 +26,14 @@ pub struct Bounds {
 }
 
 // If: the condition, the blocks and the branch; the then block is open.
-pub fn enter_if(ctx: &mut FnCtx, scopes: &Scopes, condition: Expr) -> Result<Blocks, LoweringError>
+#[tactic(auto, unfolding(lower_walk::specs::Stmts::enter_if, lower_walk::specs::Stmts::terminate, lower_walk::specs::Stmts::switch_to))]
+pub fn enter_if(
+    ctx: &mut FnCtx,
+    scopes: &Scopes,
+    condition: Expr,
+) -> Result<ThreeBlocks, LoweringError>
     ensures is { with_state blocks_of ctx.new result ≡ enter_if (contract_in condition.entry.contract) scopes.now.held (expr_in condition.entry) ctx.old }
+    ensures among { IfOk result (λ blocks. BlocksMade ctx.new blocks) }
     ensures grown { Grown ctx.old ctx.new }
 {
     let (value, _) = lower_expr_value(ctx, scopes, condition)?;
@@ -38,12 +44,14 @@ pub fn enter_if(ctx: &mut FnCtx, scopes: &Scopes, condition: Expr) -> Result<Blo
 }
 
 // While: the blocks, then the condition in the header, and the branch; the body is open.
+#[tactic(auto, unfolding(lower_walk::specs::Stmts::enter_while, lower_walk::specs::Stmts::while_header, lower_walk::specs::Stmts::terminate, lower_walk::specs::Stmts::switch_to))]
 pub fn enter_while(
     ctx: &mut FnCtx,
     scopes: &Scopes,
     condition: Expr,
-) -> Result<Blocks, LoweringError>
+) -> Result<ThreeBlocks, LoweringError>
     ensures is { with_state blocks_of ctx.new result ≡ enter_while (contract_in condition.entry.contract) scopes.now.held (expr_in condition.entry) ctx.old }
+    ensures among { IfOk result (λ blocks. BlocksMade ctx.new blocks) }
     ensures grown { Grown ctx.old ctx.new }
 {
     let blocks = ctx.three_blocks()?;
@@ -56,8 +64,10 @@ pub fn enter_while(
 }
 
 // The two locals of a For, from the values of its bounds.
+#[tactic(auto, unfolding(lower_walk::specs::Stmts::two_locals))]
 fn two_locals(ctx: &mut FnCtx, start: ValueId, end: ValueId) -> Result<Bounds, LoweringError>
     ensures is { with_state bounds_of ctx.new result ≡ two_locals start.0 end.0 ctx.old }
+    ensures made { IfOk result (λ bounds. LocalMade ctx.old ctx.new) }
     ensures grown { Grown ctx.old ctx.new }
 {
     let var = init_local(ctx, IrType::U64, start)?;
@@ -66,6 +76,7 @@ fn two_locals(ctx: &mut FnCtx, start: ValueId, end: ValueId) -> Result<Bounds, L
 }
 
 // For: both bounds, then their locals.
+#[tactic(auto, unfolding(lower_walk::specs::Stmts::for_locals))]
 pub fn for_locals(
     ctx: &mut FnCtx,
     scopes: &Scopes,
@@ -73,7 +84,9 @@ pub fn for_locals(
     end: Expr,
 ) -> Result<Bounds, LoweringError>
     requires { end.contract.sheet.now ≡ start.contract.sheet.now }
-    ensures is { with_state bounds_of ctx.new result ≡ for_locals (contract_in start.entry.contract) scopes.now.held (expr_in start.entry) (expr_in end.entry) ctx.old }
+    ensures is { with_state bounds_of ctx.new result
+        ≡ for_locals (contract_in start.entry.contract) scopes.now.held (expr_in start.entry) (expr_in end.entry) ctx.old }
+    ensures made { IfOk result (λ bounds. LocalMade ctx.old ctx.new) }
     ensures grown { Grown ctx.old ctx.new }
 {
     let (first, _) = lower_expr_value(ctx, scopes, start)?;
@@ -82,8 +95,10 @@ pub fn for_locals(
 }
 
 // The test of a For in its header, and the branch.
+#[tactic(auto, unfolding(lower_walk::specs::Stmts::for_header, lower_walk::specs::Stmts::terminate))]
 fn for_header(ctx: &mut FnCtx, bounds: Bounds, body: BlockId, exit: BlockId)
-    ensures { ctx.new ≡ for_header (bounds_of bounds) body.0 exit.0 ctx.old }
+    ensures is { ctx.new ≡ for_header (bounds_of bounds) body.0 exit.0 ctx.old }
+    ensures grown { Grown ctx.old ctx.new }
 {
     let i = emit_read_local(ctx, bounds.var, IrType::U64);
     let end = emit_read_local(ctx, bounds.end, IrType::U64);
@@ -92,8 +107,11 @@ fn for_header(ctx: &mut FnCtx, bounds: Bounds, body: BlockId, exit: BlockId)
 }
 
 // For: the blocks and the header; the body is open.
-pub fn for_blocks(ctx: &mut FnCtx, bounds: Bounds) -> Result<Blocks, LoweringError>
+#[tactic(auto, unfolding(lower_walk::specs::Stmts::for_blocks, lower_walk::specs::Stmts::terminate, lower_walk::specs::Stmts::switch_to))]
+pub fn for_blocks(ctx: &mut FnCtx, bounds: Bounds) -> Result<ThreeBlocks, LoweringError>
     ensures is { with_state blocks_of ctx.new result ≡ for_blocks (bounds_of bounds) ctx.old }
+    ensures among { IfOk result (λ blocks. BlocksMade ctx.new blocks) }
+    ensures grown { Grown ctx.old ctx.new }
     ensures refused { IfErr result (λ e. ctx.new ≡ ctx.old) }
 {
     let blocks = ctx.three_blocks()?;
@@ -105,8 +123,10 @@ pub fn for_blocks(ctx: &mut FnCtx, bounds: Bounds) -> Result<Blocks, LoweringErr
 }
 
 // The step of a For and the jump back.
+#[tactic(auto, unfolding(lower_walk::specs::Stmts::for_next, lower_walk::specs::Stmts::terminate))]
 fn for_next(ctx: &mut FnCtx, var: LocalId, header: BlockId)
-    ensures { ctx.new ≡ for_next var.0 header.0 ctx.old }
+    ensures is { ctx.new ≡ for_next var.0 header.0 ctx.old }
+    ensures grown { Grown ctx.old ctx.new }
 {
     let i = emit_read_local(ctx, var, IrType::U64);
     let one = emit_const(ctx, 1);
@@ -116,9 +136,11 @@ fn for_next(ctx: &mut FnCtx, var: LocalId, header: BlockId)
 }
 
 // The end of a For's body: the step, if it is open; then its exit.
-pub fn leave_for(ctx: &mut FnCtx, var: LocalId, blocks: Blocks)
+#[tactic(auto, unfolding(lower_walk::specs::Stmts::for_step, lower_walk::specs::Stmts::switch_to))]
+pub fn leave_for(ctx: &mut FnCtx, var: LocalId, blocks: ThreeBlocks)
     requires { blocks.third.0 < ctx.old.next_block }
-    ensures { ctx.new ≡ switch_to blocks.third.0 (for_step var.0 blocks.first.0 ctx.old) }
+    ensures is { ctx.new ≡ switch_to blocks.third.0 (for_step var.0 blocks.first.0 ctx.old) }
+    ensures grown { Grown ctx.old ctx.new }
 {
     if !ctx.is_ended() {
         for_next(ctx, var, blocks.first);

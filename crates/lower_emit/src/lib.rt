@@ -8,7 +8,7 @@ ghost use Rattle.definitions.specs.Ir as defs;
 ghost use Rattle.definitions.specs.Ir.{Instruction, Terminator, tag_of};
 ghost use Rattle.format.specs.Contexts.{context_number};
 ghost use Rattle.format.specs.Kinds.{instr_number};
-ghost use Rattle.format.specs.Operators.{op_number};
+ghost use Rattle.format.specs.Operators.{operator_number};
 ghost use Rattle.ir.specs.Answers.{option_of};
 ghost use Rattle.ir.specs.Types.{as_type};
 ghost use Rattle.lower_state.specs.Bytes.{part_in, record_bytes};
@@ -69,7 +69,7 @@ pub fn emit_const(ctx: &mut FnCtx, value: usize) -> ValueId
 
 // The kind of an operator's instruction. No `From` of crates/format, which has no definition to promise it by.
 fn binary_kind(op: BinOp) -> kinds::Instruction
-    ensures { instr_number result ≡ binary_kind (op_of (op_number op)) }
+    ensures { instr_number result ≡ binary_kind (op_of (operator_number op)) }
 {
     match op {
         BinOp::Add => kinds::Instruction::Add,
@@ -87,7 +87,7 @@ fn binary_kind(op: BinOp) -> kinds::Instruction
 
 // The ten operators.
 pub fn emit_binary(ctx: &mut FnCtx, op: BinOp, ty: IrType, lhs: ValueId, rhs: ValueId) -> ValueId
-    ensures { Pushes (Instruction.Binary (op_of (op_number op)) (as_type ty) lhs.0 rhs.0) ctx.old ctx.new result }
+    ensures { Pushes (Instruction.Binary (op_of (operator_number op)) (as_type ty) lhs.0 rhs.0) ctx.old ctx.new result }
 {
     let left = Part::id(lhs.0);
     let right = Part::id(rhs.0);
@@ -225,13 +225,20 @@ pub fn emit_event(ctx: &mut FnCtx, event: Name, args: &Args)
     );
 }
 
+// The number of what a ContextRead reads.
+fn context_number(context: ContextKind) -> u16
+    ensures { result ≡ context_number context }
+{
+    context as u16
+}
+
 pub fn emit_context_read(ctx: &mut FnCtx, context: ContextKind) -> ValueId
     ensures { Pushes (Instruction.ContextRead (context_number context)) ctx.old ctx.new result }
 {
     push_instr(
         ctx,
         kinds::Instruction::ContextRead,
-        Part::id(context as u16),
+        Part::id(context_number(context)),
         NOTHING,
         NOTHING,
     )

@@ -1,11 +1,11 @@
 -- The walk of a call. Assumes nothing: these are definitions.
 use Rattle.std.specs.Prelude.{ℕ}
 use Rattle.definitions.specs.Ast.{Exprs, Contract}
-use Rattle.definitions.specs.Lower.{Lowering, callee, count}
+use Rattle.definitions.specs.Lower.{Lowering, count}
 use Rattle.lower_walk.specs.Log.{Log}
 use Rattle.lower_walk.specs.Held.{Held}
 use Rattle.lower_walk.specs.Exprs.{Walked, walk_call, walk_args}
 
 -- a call of the name n with arguments, as `walk_expr` has it
 abbrev pub call_of : Contract → Held → (n : ℕ) → Exprs → Log → Lowering Walked
-call_of K es n args c = walk_call K (callee n) n (count args) (λ d. walk_args K es args d) c
+call_of K es n args c = walk_call K n (count args) (λ d. walk_args K es args d) c

@@ -19,7 +19,7 @@ use lower_values::{Value, leaves};
 
 // An expression, with the names that are held. What it gives is nothing, if it is a call of a function that gives nothing.
 #[cycle(exprs)]
-#[tactic(auto, unfolding(lower_walk::specs::Exprs::walk_expr))]
+#[tactic(auto, unfolding(lower_walk::specs::Exprs::walk_expr, lower_walk::specs::Exprs::walk_expr_value))]
 pub fn lower_expr(ctx: &mut FnCtx, scopes: &Scopes, e: Expr) -> Result<Option<Value>, LoweringError>
     ensures is { with_state (option_of value_in) ctx.new.log result ≡ walk_expr (contract_in e.entry.contract) scopes.now.held (expr_in e.entry) ctx.old.log }
     ensures log_alone { LogAlone ctx.old ctx.new }
@@ -47,7 +47,7 @@ pub fn lower_expr(ctx: &mut FnCtx, scopes: &Scopes, e: Expr) -> Result<Option<Va
 
 // An expression that must give a value.
 #[cycle(exprs)]
-#[tactic(auto, unfolding(lower_walk::specs::Exprs::walk_expr_value))]
+#[tactic(auto, unfolding(lower_walk::specs::Exprs::walk_expr_value, lower_walk::specs::Exprs::need_value))]
 pub fn lower_expr_value(ctx: &mut FnCtx, scopes: &Scopes, e: Expr) -> Result<Value, LoweringError>
     ensures is { with_state value_in ctx.new.log result ≡ walk_expr_value (contract_in e.entry.contract) scopes.now.held (expr_in e.entry) ctx.old.log }
     ensures log_alone { LogAlone ctx.old ctx.new }
@@ -59,6 +59,7 @@ pub fn lower_expr_value(ctx: &mut FnCtx, scopes: &Scopes, e: Expr) -> Result<Val
 // arguments, as in the Rust: they are not lowered. The loop over arguments stands in `lower_simple::lower_emit` too: the form of document 01 is a
 // cycle of three functions, and a function for the loop would be a fourth.
 #[cycle(exprs)]
+#[tactic(auto, unfolding(lower_walk::specs::Exprs::walk_call))]
 fn lower_call(
     ctx: &mut FnCtx,
     scopes: &Scopes,
@@ -66,7 +67,8 @@ fn lower_call(
     args: Exprs,
 ) -> Result<Option<Value>, LoweringError>
     requires { count_of (exprs_in args) ≤ 16 }
-    ensures is { with_state (option_of value_in) ctx.new.log result ≡ call_of (contract_in args.entry.contract) scopes.now.held name.0 (exprs_in args.entry) ctx.old.log }
+    ensures is { with_state (option_of value_in) ctx.new.log result
+        ≡ call_of (contract_in args.entry.contract) scopes.now.held name.0 (exprs_in args.entry) ctx.old.log }
     ensures log_alone { LogAlone ctx.old ctx.new }
 {
     let callee = callee_named(args.contract, name, args.len())?;

@@ -2,12 +2,13 @@
 // would be made here only to be taken apart again.
 #![tactic(auto)]
 
-ghost use Rattle.std.specs.Prelude.{◌≡◌, ◌<◌, IfErr};
+ghost use Rattle.std.specs.Prelude.{◌≡◌, ◌<◌, IfOk, IfErr};
 ghost use Rattle.std.proofs.Math.Option.{none};
 ghost use Rattle.definitions.specs.Ir.{Terminator};
 ghost use Rattle.ir.specs.Answers.{option_of};
 ghost use Rattle.ir.specs.Types.{as_type};
 ghost use Rattle.lower_walk.specs.Stmts.{terminate, terminate_if_open, next_arm, init_local};
+ghost use Rattle.lower_walk.specs.Grown.{Grown, LocalMade};
 ghost use Rattle.lower_state.specs.Answers.{with_state};
 
 use ir::{BlockId, IrType, LocalId, ValueId};
@@ -35,7 +36,8 @@ pub fn branch(ctx: &mut FnCtx, condition: ValueId, yes: BlockId, no: BlockId)
 // `set_terminator` of a Return.
 #[tactic(auto, unfolding(lower_walk::specs::Stmts::terminate))]
 pub fn return_value(ctx: &mut FnCtx, value: Option<ValueId>)
-    ensures { ctx.new ≡ terminate (Terminator.Return (option_of (λ v. v.0) value)) ctx.old }
+    ensures is { ctx.new ≡ terminate (Terminator.Return (option_of (λ v. v.0) value)) ctx.old }
+    ensures grown { Grown ctx.old ctx.new }
 {
     emit_return(ctx, value);
     ctx.close();
@@ -44,7 +46,8 @@ pub fn return_value(ctx: &mut FnCtx, value: Option<ValueId>)
 // The Return that ends a function whose last block is open.
 #[tactic(auto, unfolding(lower_walk::specs::Stmts::terminate_if_open))]
 pub fn return_if_open(ctx: &mut FnCtx)
-    ensures { ctx.new ≡ terminate_if_open (Terminator.Return none) ctx.old }
+    ensures is { ctx.new ≡ terminate_if_open (Terminator.Return none) ctx.old }
+    ensures grown { Grown ctx.old ctx.new }
 {
     if !ctx.is_ended() {
         return_value(ctx, None);
@@ -55,7 +58,7 @@ pub fn return_if_open(ctx: &mut FnCtx)
 #[tactic(auto, unfolding(lower_walk::specs::Stmts::terminate, lower_walk::specs::Stmts::terminate_if_open))]
 fn jump_if_open(ctx: &mut FnCtx, target: BlockId)
     ensures is { ctx.new ≡ terminate_if_open (Terminator.Jump target.0) ctx.old }
-    ensures same_blocks { ctx.new.next_block ≡ ctx.old.next_block }
+    ensures grown { Grown ctx.old ctx.new }
 {
     if !ctx.is_ended() {
         jump(ctx, target);
@@ -63,10 +66,11 @@ fn jump_if_open(ctx: &mut FnCtx, target: BlockId)
 }
 
 // The end of an arm or a body, which jumps to `target` if it is open; then the block `next`.
-#[tactic(auto, unfolding(lower_walk::specs::Stmts::next_arm))]
+#[tactic(auto, unfolding(lower_walk::specs::Stmts::next_arm, lower_walk::specs::Stmts::switch_to))]
 pub fn next_arm(ctx: &mut FnCtx, target: BlockId, next: BlockId)
     requires { next.0 < ctx.old.next_block }
-    ensures { ctx.new ≡ next_arm target.0 next.0 ctx.old }
+    ensures is { ctx.new ≡ next_arm target.0 next.0 ctx.old }
+    ensures grown { Grown ctx.old ctx.new }
 {
     jump_if_open(ctx, target);
     ctx.switch_to(next);
@@ -76,6 +80,8 @@ pub fn next_arm(ctx: &mut FnCtx, target: BlockId, next: BlockId)
 #[tactic(auto, unfolding(lower_walk::specs::Stmts::init_local))]
 pub fn init_local(ctx: &mut FnCtx, ty: IrType, value: ValueId) -> Result<LocalId, LoweringError>
     ensures is { with_state (λ l. l.0) ctx.new result ≡ init_local (as_type ty) value.0 ctx.old }
+    ensures made { IfOk result (λ local. LocalMade ctx.old ctx.new) }
+    ensures grown { Grown ctx.old ctx.new }
     ensures refused { IfErr result (λ e. ctx.new ≡ ctx.old) }
 {
     let local = ctx.new_local(ty)?;

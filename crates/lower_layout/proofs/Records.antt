@@ -2,7 +2,7 @@
 -- Assumes nothing.
 use mathlib.Core.Path.{◌≡◌, refl, ap, sym, ◌∙◌}
 use mathlib.Core.List.{List, [], ◌∷◌, ◌++◌, map, append_assoc, append-nil}
-use Prim.Native.Nat.{ℕ, zero, suc, ◌+◌, ◌-◌, ◌*◌, ◌≤◌, ◌<◌}
+use Prim.Native.Nat.{ℕ, zero, suc, ◌+◌, ◌-◌, ◌*◌, ◌≤◌}
 use native.Mathlib.Nat.{add-zero}
 use native.Mathlib.Numerals.{add-one}
 use native.Mathlib.Omega.{arith}
@@ -24,9 +24,11 @@ use Rattle.ir.specs.Types.{as_type}
 use Rattle.ir.specs.declared.IrType.{IrType as CodeType}
 use Rattle.lower_walk.specs.Stmts.{LogCtx}
 use Rattle.lower_walk.specs.Layout.{block_bytes, blocks_bytes, param_values, head_bytes, function_bytes}
+use Rattle.lower_state.specs.Bytes.{Put}
+use Rattle.lower_state.proofs.Appending.{◌then◌}
 use Rattle.lower_layout.specs.Laid.{Laid}
-use Rattle.lower_layout.specs.Stored.{Put, LaidOrLost, blocks_part, head_of, head_size}
-use Rattle.lower_layout.proofs.Storing.{put_length, run, run_more, ◌then◌, put_as}
+use Rattle.lower_layout.specs.Stored.{LaidOrLost, blocks_part, head_of, head_size}
+use Rattle.lower_layout.proofs.Storing.{put_length, run, run_more, put_as}
 
 -- BLOCKS
 abbrev pub block_at : LogCtx → ℕ → List ℕ
@@ -37,8 +39,8 @@ unfolding blocks_bytes run
 blocks_from c k zero = refl
 blocks_from c k (suc n) = ap (λ (x : List ℕ). block_at c k ++ x) (blocks_from c (suc k) n)
 
-pub blocks_run : (c : LogCtx) → blocks_part c ≡ run (block_at c) 0 c.next_block
-blocks_run c = blocks_from c 0 c.next_block
+pub blocks_run : (c : LogCtx) (n : ℕ) → c.next_block ≡ n → blocks_part c ≡ run (block_at c) 0 n
+blocks_run c n e = blocks_from c 0 c.next_block ∙ ap (run (block_at c) 0) e
 
 block_size : (k : ℕ) (x : List ℕ) → 6 + length (bytes 2 k ++ x) ≡ 8 + length x
 block_size k x = simp (length-append, length_bytes) (omega arith)
@@ -107,18 +109,9 @@ pub params_all : {ps : List ast.Param} {l m : List ℕ} {a i n : ℕ} → Begun 
 unfolding write_items param_values
 params_all {i = i} B e = rw (← e, add-zero i) (put_as (sym (append-nil B.front) ∙ B.whole) B.put)
 
--- LOCALS: the first of them
+-- LOCALS
 abbrev pub locals_part : List CodeType → List ℕ
 locals_part ts = write_items (map ty (map as_type ts))
-
-locals_more : (ts : List CodeType) (i : ℕ) (d : CodeType) → i < length ts → locals_part (take i ts) ++ write_type (as_type (get_or ts i d)) ≡ locals_part (take (suc i) ts)
-unfolding write_items write_item
-locals_more [] i d h = absurd (omega arith)
-locals_more (t ∷ ts) zero d h = sym (append-nil _)
-locals_more (t ∷ ts) (suc i) d h = append_assoc (write_type (as_type t)) _ _ ∙ ap (λ (x : List ℕ). write_type (as_type t) ++ x) (locals_more ts i d (omega arith))
-
-pub local_next : (ts : List CodeType) (i : ℕ) (d : CodeType) → i < length ts → locals_part (take i ts) ++ write_type (as_type (get_or ts i d)) ≡ locals_part (take (i + 1) ts)
-local_next ts i d h = rw add-one (locals_more ts i d h)
 
 pub locals_are : (ts : List CodeType) → bytes 2 (length ts) ++ locals_part ts ≡ write_value (group (map ty (map as_type ts)))
 unfolding write_value

@@ -16,14 +16,9 @@ use Rattle.definitions.specs.Fields.{bytes}
 use Rattle.definitions.proofs.Fields.{length_bytes}
 use Rattle.definitions.proofs.Results.{by_test}
 use Rattle.writer.proofs.Stores.{sets_append}
+use Rattle.lower_state.specs.Bytes.{Put}
+use Rattle.lower_state.proofs.Appending.{◌then◌}
 use Rattle.lower_layout.specs.Laid.{room_of, behind, Laid}
-use Rattle.lower_layout.specs.Stored.{Put}
-
-infixl 5 ◌then◌
--- one after the other
-pub ◌then◌ : {x y l m n : List ℕ} {a b c : ℕ} → Put x l a m b → Put y m b n c → Put (x ++ y) l a n c
-◌then◌ {x} {y} {l} {m} {n} {a} {b} {c} p q =
-    record { is = q.is ∙ rw (p.past, p.is) (sym (sets_append x y l a)); past = rw length-append (omega (arith, p.past, q.past)) }
 
 -- a number was written
 pub wrote : {l m : List ℕ} {a b : ℕ} (n v : ℕ) → m ≡ sets l a (bytes n v) → b ≡ a + n → Put (bytes n v) l a m b

@@ -1,17 +1,11 @@
 -- What the parts of the program sheet's layout leave. Untrusted: helper definitions.
 use Rattle.std.specs.Prelude.{ℕ, ◌+◌, ◌*◌, ◌≤◌, ◌<◌, ◌≡◌, List, ◌++◌, length, get_or, Option, None}
-use Rattle.std.proofs.lemmas.List.Edits.{sets}
 use Rattle.definitions.specs.Ast.{Function}
 use Rattle.definitions.specs.Fields.{bytes}
 use Rattle.definitions.specs.Ir.{IrType}
 use Rattle.lower_walk.specs.Stmts.{LogCtx}
 use Rattle.lower_walk.specs.Layout.{blocks_bytes, head_bytes, function_bytes}
 use Rattle.lower_layout.specs.Laid.{Laid}
-
--- x was written at `to`, and r is the place after it
-pub record Put (x before : List ℕ) (to : ℕ) (after : List ℕ) (r : ℕ) : Type 0 where
-  pub is : after ≡ sets before to x
-  pub past : r ≡ to + length x
 
 -- the records of each of n blocks stand in the first `to` bytes of the log
 abbrev pub BlocksWithin : (starts stops : List ℕ) (n to : ℕ) → Type 0

@@ -8,17 +8,18 @@ ghost use Rattle.std.proofs.lemmas.List.Edits.{sets};
 ghost use Rattle.definitions.specs.Fields.{bytes};
 ghost use Rattle.definitions.specs.Records.{ty, group, write_record, write_value};
 ghost use Rattle.definitions.specs.ProgramSheet.{param_item};
-ghost use Rattle.format.specs.Kinds.{number_of};
+ghost use Rattle.format.specs.Kinds.{kind_number};
 ghost use Rattle.ir.specs.Types.{as_type};
 ghost use Rattle.contract_nodes.specs.Nodes.{function_in};
 ghost use Rattle.lower_walk.specs.Layout.{param_values};
+ghost use Rattle.lower_state.specs.Bytes.{Put};
 ghost use Rattle.lower_layout.specs.Laid.{behind};
-ghost use Rattle.lower_layout.specs.Stored.{Put, BlocksWithin, Within, blocks_part, head_of, head_size, LaidOrLost};
+ghost use Rattle.lower_layout.specs.Stored.{BlocksWithin, Within, blocks_part, head_of, head_size, LaidOrLost};
 
 use contract_lookup::types::{own_return_type, parse_ir_type};
 use contract_nodes::Function;
 use format::kinds::Kind;
-use format::{ID, KIND, MOST, TYPE, program};
+use format::{COUNT, ID, KIND, LENGTH_BYTES, MOST, TYPE, program};
 use ir::{BlockId, FunctionId, IrType};
 use lower_state::FnCtx;
 use writer::{copy, write};
@@ -34,9 +35,9 @@ pub fn place_behind(out: &[u8], to: usize, size: usize) -> Option<usize>
 // A record's head: its length and its kind.
 pub fn write_head(out: &mut [u8], to: usize, size: usize, kind: Kind)
     requires { to + 6 ≤ length out.old }
-    ensures { out.new ≡ sets out.old to (bytes 4 size ++ bytes 2 (number_of kind)) }
+    ensures { out.new ≡ sets out.old to (bytes 4 size ++ bytes 2 (kind_number kind)) }
 {
-    write(out, to, 4, size);
+    write(out, to, LENGTH_BYTES, size);
     write(out, to + KIND, 2, u16::from(kind) as usize);
 }
 
@@ -60,7 +61,7 @@ fn lay_block(block: BlockId, records: &[u8], out: &mut [u8], to: usize) -> usize
 {
     let n = records.len();
     write_head(out, to, program::RECORDS + n, Kind::BasicBlock);
-    write(out, to + program::BLOCK_ID, 2, block.0 as usize);
+    write(out, to + program::BLOCK_ID, ID, block.0 as usize);
     copy(records, 0, n, out, to + program::RECORDS);
     to + program::RECORDS + n
 }
@@ -84,13 +85,13 @@ fn lay_params(f: Function, out: &mut [u8], to: usize) -> usize
     ensures { Put (write_value (group (map param_item (param_values 0 (function_in f.entry).params)))) out.old to out.new result }
 {
     let n = f.param_count();
-    write(out, to, 2, n);
-    let first = to + 2;
+    write(out, to, COUNT, n);
+    let first = to + COUNT;
     for (i, param) in f.params().enumerate() {
         let place = first + program::PARAM * i;
         let ty = parse_ir_type(param.ty);
-        write(out, place, 2, i);
-        write(out, place + ID, 4, u32::from(ty) as usize);
+        write(out, place, ID, i);
+        write(out, place + ID, TYPE, u32::from(ty) as usize);
     }
     first + program::PARAM * n
 }
@@ -101,10 +102,10 @@ fn lay_locals(locals: &[IrType], out: &mut [u8], to: usize) -> usize
     ensures { Put (write_value (group (map ty (map as_type locals.now)))) out.old to out.new result }
 {
     let n = locals.len();
-    write(out, to, 2, n);
-    let first = to + 2;
+    write(out, to, COUNT, n);
+    let first = to + COUNT;
     for (i, ty) in locals.iter().enumerate() {
-        write(out, first + TYPE * i, 4, u32::from(*ty) as usize);
+        write(out, first + TYPE * i, TYPE, u32::from(*ty) as usize);
     }
     first + TYPE * n
 }
@@ -122,10 +123,15 @@ fn lay_head(
     ensures { Put (head_of size id.0 (function_in f.entry) (map as_type locals.now)) out.old to out.new result }
 {
     write_head(out, to, size, Kind::IrFunction);
-    write(out, to + program::FUNCTION_ID, 2, id.0 as usize);
-    write(out, to + program::FUNCTION_NAME, 2, f.name().0 as usize);
+    write(out, to + program::FUNCTION_ID, ID, id.0 as usize);
+    write(out, to + program::FUNCTION_NAME, ID, f.name().0 as usize);
     let ret = own_return_type(f.return_type());
-    write(out, to + program::RETURN_TYPE, 4, u32::from(ret) as usize);
+    write(
+        out,
+        to + program::RETURN_TYPE,
+        TYPE,
+        u32::from(ret) as usize,
+    );
     let place = lay_params(f, out, to + program::PARAM_COUNT);
     lay_locals(locals, out, place)
 }
@@ -137,7 +143,7 @@ fn function_size(f: Function, ctx: &FnCtx) -> usize
 {
     let params = program::PARAM * f.param_count();
     let locals = TYPE * ctx.locals().len();
-    program::PARAMS + params + 2 + locals + blocks_size(ctx)
+    program::PARAMS + params + COUNT + locals + blocks_size(ctx)
 }
 
 // A function's record, from what its walk left; the place behind it, if it fits.

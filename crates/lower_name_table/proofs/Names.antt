@@ -1,10 +1,10 @@
 -- A name's record; the rows of functions' names: a row for each function whose name no earlier one has, with the last id of the name; the loop that lays
 -- them down, and the one that looks for an earlier function of a name. Assumes nothing.
-use Rattle.std.specs.Prelude as code
+use Rattle.std.specs.Prelude as prelude
 use Rattle.std.specs.Prelude.{None, Some}
 use mathlib.Core.Path.{◌≡◌, refl, ap, sym, ◌∙◌}
 use mathlib.Core.Bool.{Bool, true, false, ◌||◌}
-use mathlib.Core.List.{List, [], ◌∷◌, ◌++◌, append_assoc, append-nil}
+use mathlib.Core.List.{List, [], ◌∷◌, ◌++◌, append_assoc}
 use mathlib.Core.Option.{Option, none, some}
 use Prim.Native.Nat.{ℕ, zero, suc}
 use borrow.Author.Tests.{eqb-true, eq-eqb, eqb-false, ne_eqb}
@@ -12,7 +12,7 @@ use lib.Dec.{eqb}
 use lib.ListN.{length, drop, length-append}
 use Rattle.std.proofs.lemmas.Iterator.{YieldsList}
 use Rattle.std.proofs.lemmas.Iterator.Consumers.{YieldsList-from_shown}
-use Rattle.definitions.specs.Ast.{Function, Contract}
+use Rattle.definitions.specs.Ast.{Function}
 use Rattle.definitions.specs.Lower.{set_name, function_names}
 use Rattle.definitions.specs.Names.{last_named, or_this}
 use Rattle.definitions.specs.Records.{pick, tnil, treesOf, write_item, write_value, write_record, write_values, write_tree, write_trees}
@@ -22,10 +22,14 @@ use Rattle.definitions.specs.ProgramSheet.{function_name_tree}
 use Rattle.definitions.specs.Sema.{return_type}
 use Rattle.definitions.proofs.Fields.{length_bytes}
 use Rattle.definitions.proofs.Results.{by_test}
-use Rattle.contract_nodes.specs.Nodes.{function_in}
+use Rattle.ir.specs.declared.FunctionId.{FunctionId}
+use Rattle.contract_nodes.specs.Nodes.{contract_in, function_in}
+use Rattle.contract_nodes.specs.declared.contract.Function as code
 use Rattle.contract_lookup.specs.Answers.{id_named}
-use Rattle.contract_lookup.specs.Walked.{left_in, TakesNext}
+use Rattle.contract_lookup.specs.Walked.{left_in, NextFunction, TakesNext}
+use Rattle.contract_lookup.specs.declared.items.Functions.{Functions}
 use Rattle.contract_lookup.specs.declared.items.FunctionIter.{FunctionIter}
+use Rattle.lower_walk.proofs.Trees.{trees_append, trees_more}
 use Rattle.lower_layout.specs.Laid.{Laid}
 use Rattle.lower_layout.proofs.Storing.{laid_then, laid_lost}
 use Rattle.lower_name_table.specs.NameTable.{is_named, names_of}
@@ -148,101 +152,97 @@ functions_left w = YieldsList-from_shown TakesNext (λ p. function_in p.1) left_
 abbrev name_rows : Rows → List ℕ
 name_rows rs = write_trees (treesOf function_name_tree rs tnil)
 
-rows_append : (rs ts : Rows) → name_rows (rs ++ ts) ≡ name_rows rs ++ name_rows ts
-unfolding write_trees
-rows_append [] ts = refl
-rows_append (r ∷ rs) ts = rw (rows_append rs ts) (sym (append_assoc (write_tree (function_name_tree r)) (name_rows rs) (name_rows ts)))
+abbrev all_of : Functions → List Function
+all_of F = (contract_in F.contract).functions
 
-one_row : (r : ℕ × ℕ) → name_rows (r ∷ []) ≡ write_tree (function_name_tree r)
-unfolding write_trees
-one_row r = append-nil _
-
--- the names of the first i functions are laid down: their rows, and what is left gives the rest of them
-pub record Named (fs : List Function) (before : List ℕ) (to i : ℕ) (now : List ℕ) (at : ℕ) : Type 0 where
+-- of the functions F, the names of those before w are laid down: their rows, and what is left gives the rest of them
+pub record Named (F : Functions) (before : List ℕ) (to : ℕ) (w : FunctionIter) (now : List ℕ) (at : ℕ) : Type 0 where
+  pub same : w.functions.now ≡ F
   pub seen : ℕ → Bool
-  pub seen_is : (n : ℕ) → seen n ≡ is_named n i fs
-  pub later : (n : ℕ) (x : ℕ × Function) → last_from i (drop i fs) n ≡ some x → last_from 0 fs n ≡ some x
+  pub seen_is : (n : ℕ) → seen n ≡ is_named n w.next (all_of F)
+  pub later : (n : ℕ) (x : ℕ × Function) → last_from w.next (left_in w) n ≡ some x → last_from 0 (all_of F) n ≡ some x
   pub rows : Rows
-  pub rows_are : function_names 0 fs [] ≡ rows ++ rows_left seen i (drop i fs)
+  pub rows_are : function_names 0 (all_of F) [] ≡ rows ++ rows_left seen w.next (left_in w)
   pub laid : Laid (name_rows rows) before to now (Some at)
 
-pub start : (fs : List Function) {before : List ℕ} {to at : ℕ} → Laid [] before to before (Some at) → Named fs before to 0 before at
+pub start : {F : Functions} {w : FunctionIter} {before : List ℕ} {to at : ℕ} → w.next ≡ 0 → w.functions.now ≡ F → Laid [] before to before (Some at) → Named F before to w before at
 unfolding write_trees
-start fs x =
+start {F} first same x =
     record {
+      same = same;
       seen = λ n. false;
-      seen_is = λ n. refl;
-      later = λ n x e. e;
+      seen_is = λ n. rw first refl;
+      later = λ n x e. rw (first, same) at e;
       rows = [];
-      rows_are = sym (all_unseen (function_names 0 fs []));
+      rows_are = rw (first, same) (sym (all_unseen (function_names 0 (all_of F) [])));
       laid = x;
     }
 
-module _ {fs : List Function} {before now : List ℕ} {to i at : ℕ} (N : Named fs before to i now at) (f : Function) (h : drop i fs ≡ f ∷ drop (suc i) fs) where
+module _ {F : Functions} {before now : List ℕ} {to at : ℕ} {w behind : FunctionIter} {id : FunctionId} {f : code.Function} (N : Named F before to w now at) (n : NextFunction w behind id f) where
+  abbrev name : ℕ
+  name = (function_in f).name
+
+  here : drop w.next (all_of F) ≡ function_in f ∷ left_in behind
+  here = sym (ap (λ (F : Functions). drop w.next (all_of F)) N.same) ∙ n.is
+
   id_here : ℕ
-  id_here = id_or (last_from (suc i) (drop (suc i) fs) f.name) i
+  id_here = id_or (last_from (suc w.next) (left_in behind) name) w.next
 
   left : Rows
-  left = rows_left (or_name f.name N.seen) (suc i) (drop (suc i) fs)
+  left = rows_left (or_name name N.seen) (suc w.next) (left_in behind)
 
-  rows_here : rows_left N.seen i (drop i fs) ≡ pick (N.seen f.name) left ((f.name, id_here) ∷ left)
+  rows_here : rows_left N.seen w.next (left_in w) ≡ pick (N.seen name) left ((name, id_here) ∷ left)
   unfolding left id_here
-  rows_here = rw h (rows_next N.seen i f (drop (suc i) fs))
+  rows_here = ap (rows_left N.seen w.next) n.is ∙ rows_next N.seen w.next (function_in f) (left_in behind)
 
-  next : {after : List ℕ} {end : ℕ} (rows : Rows) → N.rows ++ rows_left N.seen i (drop i fs) ≡ rows ++ left → Laid (name_rows rows) before to after (Some end) → Named fs before to (suc i) after end
+  next : {after : List ℕ} {end : ℕ} (rows : Rows) → N.rows ++ rows_left N.seen w.next (left_in w) ≡ rows ++ left → Laid (name_rows rows) before to after (Some end) → Named F before to behind after end
   unfolding left
   next rows q x =
       record {
-        seen = or_name f.name N.seen;
-        seen_is = λ m. ap (λ (b : Bool). eqb f.name m || b) (N.seen_is m) ∙ sym (is_named_next m i fs (sym h));
-        later = λ m y p. N.later m y (rw (h, p));
+        same = n.same ∙ N.same;
+        seen = or_name name N.seen;
+        seen_is = λ m. rw n.next (ap (λ (b : Bool). eqb name m || b) (N.seen_is m) ∙ sym (is_named_next m w.next (all_of F) (sym here)));
+        later = λ m y p. N.later m y (rw (n.is, ap (λ (i : ℕ). last_from i (left_in behind) m) (sym n.next) ∙ p));
         rows = rows;
-        rows_are = N.rows_are ∙ q;
+        rows_are = N.rows_are ∙ (q ∙ ap (λ (i : ℕ). rows ++ rows_left (or_name name N.seen) i (left_in behind)) (sym n.next));
         laid = x;
       }
 
-  -- an earlier one has the name
-  pub next_old : is_named f.name i fs ≡ true → Named fs before to (suc i) now at
-  next_old q = next N.rows (ap (λ (rs : Rows). N.rows ++ rs) (rows_here ∙ rw (N.seen_is f.name, q))) N.laid
-
   -- a new name: the last function that has it
-  last_here : (g : Function) × (last_from 0 fs f.name ≡ some (id_here, g))
+  last_here : (g : Function) × (last_from 0 (all_of F) name ≡ some (id_here, g))
   unfolding id_here
-  last_here = let r = last_is i f (drop (suc i) fs) in (r.0, N.later f.name _ (rw h r.1))
+  last_here = let r = last_is w.next (function_in f) (left_in behind) in (r.0, N.later name _ (rw n.is r.1))
 
-  -- no earlier one has it: a row with its id, which may not fit
-  row : ℕ → Rows
-  row id = (f.name, id) ∷ []
+  has_id : (p : ℕ × IrType) × (id_named (contract_in F.contract) name ≡ some p)
+  unfolding id_named
+  has_id = ((id_here, return_type last_here.0.return_type), rw last_here.1)
 
-  new_row : (id : ℕ) → is_named f.name i fs ≡ false → id ≡ id_here → N.rows ++ rows_left N.seen i (drop i fs) ≡ (N.rows ++ row id) ++ left
-  unfolding row
-  new_row id q e = ap (λ (rs : Rows). N.rows ++ rs) (rows_here ∙ rw (N.seen_is f.name, q, e)) ∙ sym (append_assoc N.rows ((f.name, id) ∷ []) left)
+  module _ {m : ℕ} (name_is : m ≡ name) where
+    -- its name m has an id
+    pub named : (p : ℕ × IrType) × (id_named (contract_in F.contract) m ≡ some p)
+    named = rw name_is has_id
 
-  row_laid : {after : List ℕ} {end : code.Option ℕ} (id : ℕ) → Laid (write_tree (function_name_tree (f.name, id))) now at after end → Laid (name_rows (N.rows ++ row id)) before to after end
-  unfolding row
-  row_laid id x = rw (rows_append N.rows ((f.name, id) ∷ []), one_row (f.name, id)) (laid_then N.laid x)
+    -- an earlier one has the name
+    pub next_old : is_named m id.0 (all_of F) ≡ true → Named F before to behind now at
+    next_old q = next N.rows (ap (λ (rs : Rows). N.rows ++ rs) (rows_here ∙ rw (N.seen_is name, rw (name_is, n.id) at q))) N.laid
 
--- THE CONTRACT'S FUNCTIONS
-module _ (K : Contract) {before now : List ℕ} {to i at : ℕ} (N : Named K.functions before to i now at) where
-  module _ (f : Function) (h : drop i K.functions ≡ f ∷ drop (suc i) K.functions) where
-    -- its name has an id
-    pub has_id : (p : ℕ × IrType) × (id_named K f.name ≡ some p)
-    unfolding id_named
-    has_id = let g = last_here N f h in ((id_here N f h, return_type g.0.return_type), rw g.1)
+    -- no earlier one has it: a row with the last id of the name, which may not fit
+    module _ {j : ℕ} (new : is_named m id.0 (all_of F) ≡ false) (last : (i : ℕ) (t : IrType) → id_named (contract_in F.contract) m ≡ some (i, t) → j ≡ i) where
+      rows_more : Rows
+      rows_more = N.rows ++ ((m, j) ∷ [])
 
-    is_id : (id : ℕ) → ((j : ℕ) (t : IrType) → id_named K f.name ≡ some (j, t) → id ≡ j) → id ≡ id_here N f h
-    unfolding has_id
-    is_id id q = q _ _ has_id.1
+      more_are : N.rows ++ rows_left N.seen w.next (left_in w) ≡ rows_more ++ left
+      unfolding rows_more has_id
+      more_are =
+          let id-is : j ≡ id_here = (rw name_is at last) _ _ has_id.1 in
+          rw (name_is, id-is) (ap (λ (rs : Rows). N.rows ++ rs) (rows_here ∙ rw (N.seen_is name, rw (name_is, n.id) at new)) ∙ sym (append_assoc N.rows ((name, id_here) ∷ []) left))
 
-    pub next_new : {after : List ℕ} {end : ℕ} (id : ℕ) → is_named f.name i K.functions ≡ false → ((j : ℕ) (t : IrType) → id_named K f.name ≡ some (j, t) → id ≡ j) → Laid (write_tree (function_name_tree (f.name, id))) now at after (Some end) → Named K.functions before to (suc i) after end
-    next_new id r q x = next N f h (N.rows ++ row N f h id) (new_row N f h id r (is_id id q)) (row_laid N f h id x)
+      row_laid : {after : List ℕ} {end : prelude.Option ℕ} → Laid (write_tree (function_name_tree (m, j))) now at after end → Laid (name_rows rows_more) before to after end
+      unfolding rows_more
+      row_laid x = rw (trees_more function_name_tree N.rows (m, j)) (laid_then N.laid x)
 
-    pub lost_new : {after : List ℕ} (id : ℕ) → is_named f.name i K.functions ≡ false → ((j : ℕ) (t : IrType) → id_named K f.name ≡ some (j, t) → id ≡ j) → Laid (write_tree (function_name_tree (f.name, id))) now at after None → Laid (names_of K) before to after None
-    lost_new id r q x =
-        let e : function_names 0 K.functions [] ≡ (N.rows ++ row N f h id) ++ left N f h = N.rows_are ∙ new_row N f h id r (is_id id q) in
-        rw (e, rows_append (N.rows ++ row N f h id) (left N f h)) (laid_lost _ (row_laid N f h id x))
+      pub next_new : {after : List ℕ} {end : ℕ} → Laid (write_tree (function_name_tree (m, j))) now at after (Some end) → Named F before to behind after end
+      next_new x = next rows_more more_are (row_laid x)
 
-  pub all_named : drop i K.functions ≡ [] → Laid (names_of K) before to now (Some at)
-  all_named e =
-      let r : function_names 0 K.functions [] ≡ N.rows = N.rows_are ∙ rw e (append-nil N.rows) in
-      rw r N.laid
+      pub lost_new : {after : List ℕ} → Laid (write_tree (function_name_tree (m, j))) now at after None → Laid (names_of (contract_in F.contract)) before to after None
+      lost_new x = rw (N.rows_are ∙ more_are, trees_append function_name_tree rows_more left) (laid_lost _ (row_laid x))

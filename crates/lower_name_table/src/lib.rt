@@ -40,8 +40,8 @@ fn lay_name(name: Name, id: FunctionId, out: &mut [u8], to: usize) -> Option<usi
 {
     let end = place_behind(out, to, NAME_BYTES)?;
     write_head(out, to, NAME_BYTES, Kind::FunctionName);
-    write(out, to + program::NAME_OF, 2, name.0 as usize);
-    write(out, to + program::NAMED_ID, 2, id.0 as usize);
+    write(out, to + program::NAME_OF, ID, name.0 as usize);
+    write(out, to + program::NAMED_ID, ID, id.0 as usize);
     Some(end)
 }
 

@@ -1,2 +1,1 @@
 mod HeldList
-mod OffsetSteps

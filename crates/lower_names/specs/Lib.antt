@@ -1,3 +1,2 @@
 pub mod HeldNames
 pub mod Entries
-pub mod Offsets

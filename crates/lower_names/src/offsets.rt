@@ -3,8 +3,8 @@ ghost use Rattle.std.specs.Prelude.{◌≡◌};
 ghost use Rattle.ir.specs.Answers.{result_of};
 ghost use Rattle.ir.specs.Types.{as_type};
 ghost use Rattle.contract_nodes.specs.Nodes.{contract_in};
+ghost use Rattle.lower_walk.specs.Exprs.{field_offset};
 ghost use Rattle.lower_state.specs.Errors.{error_of};
-ghost use Rattle.lower_names.specs.Offsets.{field_offset};
 
 use contract_lookup::symbols::{field_position, struct_named};
 use contract_nodes::Contract;
@@ -15,6 +15,7 @@ use lower_state::LoweringError;
 const FIELD_BYTES: usize = 8;
 
 // The offset in bytes of a field in a value of a type, or why there is none.
+#[tactic(auto, unfolding(lower_walk::specs::Exprs::field_offset))]
 pub fn field_offset(contract: Contract, ty: IrType, field: Name) -> Result<usize, LoweringError>
     ensures { result_of error_of (λ n. n) result ≡ field_offset (contract_in contract.entry) (as_type ty) field.0 }
 {

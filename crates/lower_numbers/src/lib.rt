@@ -1,4 +1,4 @@
-// Lowering's answer, and that of its check of a contract sheet, as numbers: one place has the number of each case.
+// Lowering's answer, and that of its check of a contract sheet, as the numbers of document 01, for C to read: one place has the number of each case.
 #![tactic(auto)]
 
 ghost use Rattle.std.specs.Prelude.{◌≡◌};

@@ -1,10 +1,10 @@
 // Statements that have no statements in them.
 #![tactic(auto)]
 
-ghost use Rattle.std.specs.Prelude.{◌≡◌, ℕ, ◌≤◌};
+ghost use Rattle.std.specs.Prelude.{◌≡◌, ℕ, ◌≤◌, IfOk};
 ghost use Rattle.definitions.specs.Ast.{Stmt};
-ghost use Rattle.contract_nodes.specs.Nodes.{returned, expr_in, exprs_in, count_of};
-ghost use Rattle.lower_walk.specs.Grown.{Grown};
+ghost use Rattle.contract_nodes.specs.Nodes.{opt_expr_in, expr_in, exprs_in, count_of};
+ghost use Rattle.lower_walk.specs.Grown.{Grown, LocalMade};
 ghost use Rattle.contract_nodes.specs.declared.contract.Contract.{Contract};
 ghost use Rattle.lower_simple.specs.Stated.{stated, let_stated, stmt_on, OnSheet};
 
@@ -25,6 +25,7 @@ pub fn lower_let(
     e: Expr,
 ) -> Result<(LocalId, IrType), LoweringError>
     ensures is { (p n : ℕ) → let_stated ctx.new scopes.now n result ≡ stmt_on e.entry.contract scopes.now (Stmt.Let p n (expr_in e.entry)) ctx.old }
+    ensures made { IfOk result (λ made. LocalMade ctx.old ctx.new) }
     ensures grown { Grown ctx.old ctx.new }
 {
     let (value, ty) = lower_expr_value(ctx, scopes, e)?;
@@ -86,7 +87,8 @@ pub fn lower_return(
     scopes: &Scopes,
     value: Option<Expr>,
 ) -> Result<(), LoweringError>
-    ensures is { (K : Contract) (p : ℕ) → OnSheet K value.entry → stated ctx.new scopes.now result ≡ stmt_on K scopes.now (Stmt.Return p (returned value.entry)) ctx.old }
+    ensures is { (K : Contract) (p : ℕ) → OnSheet K value.entry
+        → stated ctx.new scopes.now result ≡ stmt_on K scopes.now (Stmt.Return p (opt_expr_in value.entry)) ctx.old }
     ensures grown { Grown ctx.old ctx.new }
 {
     let value = match value {

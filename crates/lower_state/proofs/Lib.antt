@@ -1,4 +1,3 @@
 pub mod Appending
-pub mod Ids
-pub mod Numbers
+pub mod Items
 pub mod Spans

@@ -1,9 +1,12 @@
 -- The bytes of a record that the log gets, and that it got them. Untrusted: helper definitions, shown equal to `write_tree` of the
 -- record's tree.
-use Rattle.std.specs.Prelude.{ℕ, ◌+◌, ◌*◌, ◌≤◌, ◌≡◌, List, [], ◌∷◌, ◌++◌, map, length, Option, None, Some, IfSome}
+use Rattle.std.specs.Prelude.{ℕ, ◌+◌, ◌*◌, ◌≤◌, ◌≡◌, List, ◌++◌, map, length, Option, None, Some, IfSome}
 use Rattle.std.proofs.Math.Option as maths
 use Rattle.std.proofs.lemmas.List.Edits.{sets}
 use Rattle.definitions.specs.Fields.{bytes}
+use Rattle.definitions.specs.Fine.{own_start}
+use Rattle.definitions.specs.Grammar.{origin_width}
+use Rattle.definitions.specs.Records.{small, write_items}
 use Rattle.ir.specs.declared.ValueId.{ValueId}
 use Rattle.ir.specs.Answers.{option_of}
 use Rattle.lower_walk.specs.Log.{room, append, log_of}
@@ -25,9 +28,8 @@ abbrev pub first_number : Option ValueId → ℕ
 first_number v = id_or (option_of (λ v. v.0) v)
 
 -- ids in two bytes each
-unfoldable pub id_bytes : List ℕ → List ℕ
-id_bytes [] = []
-id_bytes (i ∷ is) = bytes 2 i ++ id_bytes is
+abbrev pub id_bytes : List ℕ → List ℕ
+id_bytes ids = write_items (map small ids)
 
 -- the numbers of ids
 abbrev pub ids_of : List ValueId → List ℕ
@@ -36,17 +38,17 @@ ids_of ids = map (λ (v : ValueId). v.0) ids
 -- size, kind, the two bytes that the fields start with, three parts, and ids
 unfoldable pub record_bytes : (kind first : ℕ) (a b c : ℕ × ℕ) (ids : List ℕ) → List ℕ
 record_bytes kind first a b c ids =
-    bytes 4 (8 + a.0 + b.0 + c.0 + 2 * length ids) ++ bytes 2 kind ++ bytes 0 0 ++ bytes 2 first ++ bytes a.0 a.1 ++ bytes b.0 b.1 ++ bytes c.0 c.1 ++ id_bytes ids
+    bytes 4 (own_start + 2 + a.0 + b.0 + c.0 + 2 * length ids) ++ bytes 2 kind ++ bytes origin_width 0 ++ bytes 2 first ++ bytes a.0 a.1 ++ bytes b.0 b.1 ++ bytes c.0 c.1 ++ id_bytes ids
 
 -- the log's end as a number: more than the room once all is lost
 abbrev pub log_end : Option ℕ → ℕ
 log_end None = 32769
 log_end (Some n) = n
 
--- from l to m, the bytes x were stored from `at` on, up to the place `to`
-pub record Stored (l : List ℕ) (at : ℕ) (x m : List ℕ) (to : ℕ) : Type 0 where
-  pub is : m ≡ sets l at x
-  pub end : to ≡ at + length x
+-- x was written at `to`, and r is the place after it
+pub record Put (x before : List ℕ) (to : ℕ) (after : List ℕ) (r : ℕ) : Type 0 where
+  pub is : after ≡ sets before to x
+  pub past : r ≡ to + length x
 
 -- from l, with the log's end at `at`, to m, with its end at r, the bytes x were appended
 pub record Added (l : List ℕ) (at : ℕ) (x m : List ℕ) (r : Option ℕ) : Type 0 where

@@ -9,7 +9,7 @@ use Rattle.lower_walk.specs.Log.{append, log_of}
 use Rattle.lower_walk.specs.Stmts as walk
 use Rattle.lower_walk.specs.Stmts.{LogCtx, with_log, with_local}
 use Rattle.lower_state.specs.Bytes.{log_end}
-use Rattle.lower_state.specs.declared.ctx.Blocks.{Blocks}
+use Rattle.lower_state.specs.declared.ctx.ThreeBlocks.{ThreeBlocks}
 use Rattle.lower_state.specs.declared.ctx.Span.{Span}
 use Rattle.lower_state.specs.declared.ctx.FnCtx.TheInside.{Inside}
 
@@ -31,8 +31,14 @@ pub record Sound (c : Inside) : Type 0 where
   pub current : c.current.0 < c.counters.block
   pub to : IfSome c.to (λ n. n ≤ 32768)
 
-abbrev pub blocks_of : Blocks → walk.Blocks
+abbrev pub blocks_of : ThreeBlocks → walk.ThreeBlocks
 blocks_of b = record { first = b.first.0; second = b.second.0; third = b.third.0 }
+
+-- three blocks that were made
+pub record BlocksMade (c : LogCtx) (b : ThreeBlocks) : Type 0 where
+  pub first : b.first.0 < c.next_block
+  pub second : b.second.0 < c.next_block
+  pub third : b.third.0 < c.next_block
 
 -- bytes behind the last record
 abbrev pub appended : List ℕ → LogCtx → LogCtx

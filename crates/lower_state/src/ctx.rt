@@ -1,5 +1,6 @@
 // A function under way.
 ghost use Rattle.std.specs.Prelude.{◌≡◌, ◌≤◌, IfSome};
+ghost use Rattle.format.specs.Kinds.{instr_number, term_number};
 ghost use Rattle.lower_walk.specs.Log.{capped};
 ghost use Rattle.lower_state.specs.Bytes.{log_end};
 
@@ -19,7 +20,7 @@ struct Span {
 
 // The three blocks of an If (then, else, merge), a While or a For (header, body, exit).
 #[derive(Clone, Copy, Debug)]
-pub struct Blocks {
+pub struct ThreeBlocks {
     pub first: BlockId,
     pub second: BlockId,
     pub third: BlockId,
@@ -63,16 +64,30 @@ fn place_of(to: Option<usize>) -> u32
     to.unwrap_or(LOST) as u32
 }
 
+// The number of a kind.
+fn instr_number(kind: kinds::Instruction) -> u16
+    ensures { result ≡ instr_number kind }
+{
+    kind as u16
+}
+
+fn term_number(kind: kinds::Terminator) -> u16
+    ensures { result ≡ term_number kind }
+{
+    kind as u16
+}
+
 impl FnCtx {
-    ghost use Rattle.std.specs.Prelude.{ℕ, suc, ◌+◌, ◌%◌, ◌≤◌, ◌<◌, [], map, length, leb, get_or, replicate, IfErr};
+    ghost use Rattle.std.specs.Prelude.{suc, ◌%◌, ◌≤◌, ◌<◌, [], map, length, leb, get_or, replicate, IfOk, IfErr};
     ghost use Rattle.format.specs.Kinds.{instr_number, term_number};
     ghost use Rattle.ir.specs.Types.{as_type};
     ghost use Rattle.lower_walk.specs.Log.{counted};
     ghost use Rattle.lower_walk.specs.Stmts.{with_log, switch_to, three_blocks};
+    ghost use Rattle.lower_walk.specs.Grown.{Grown};
     ghost use Rattle.lower_walk.specs.Layout.{new_ctx, slice};
     ghost use Rattle.lower_state.specs.Answers.{with_state};
     ghost use Rattle.lower_state.specs.Bytes.{part_in, no_part, first_number, record_bytes, ids_of};
-    ghost use Rattle.lower_state.specs.State.{appended, blocks_of, closed, new_local, BlockWithin};
+    ghost use Rattle.lower_state.specs.State.{appended, blocks_of, BlocksMade, closed, new_local, BlockWithin};
 
     #[tactic(auto, unfolding(lower_walk::specs::Layout::new_ctx))]
     pub fn new(function: FunctionId) -> FnCtx
@@ -115,8 +130,10 @@ impl FnCtx {
 
     // Three blocks, or none if one of them would be the 257th.
     #[tactic(auto, using(std::proofs::lemmas::Bool::Decides::nat_tests), unfolding(lower_walk::specs::Stmts::three_blocks))]
-    pub fn three_blocks(&mut self) -> Result<Blocks, LoweringError>
+    pub fn three_blocks(&mut self) -> Result<ThreeBlocks, LoweringError>
         ensures is { with_state blocks_of self.new result ≡ three_blocks self.old }
+        ensures among { IfOk result (λ blocks. BlocksMade self.new blocks) }
+        ensures grown { Grown self.old self.new }
         ensures refused { IfErr result (λ e. self.new ≡ self.old) }
     {
         if MOST_BLOCKS - 3 < self.counters.block as usize {
@@ -125,7 +142,7 @@ impl FnCtx {
         let first = self.counters.next_block();
         let second = self.counters.next_block();
         let third = self.counters.next_block();
-        Ok(Blocks {
+        Ok(ThreeBlocks {
             first,
             second,
             third,
@@ -156,7 +173,7 @@ impl FnCtx {
     )
         ensures { self.new ≡ appended (record_bytes (instr_number kind) (first_number value) (part_in a) (part_in b) (part_in c) []) self.old }
     {
-        self.append_record(kind as u16, id_or_absent(value), a, b, c, &[]);
+        self.append_record(instr_number(kind), id_or_absent(value), a, b, c, &[]);
     }
 
     // One that ends in ids.
@@ -171,14 +188,21 @@ impl FnCtx {
         requires { length ids.now ≤ 16 }
         ensures { self.new ≡ appended (record_bytes (instr_number kind) (first_number value) (part_in a) (part_in b) no_part (ids_of ids.now)) self.old }
     {
-        self.append_record(kind as u16, id_or_absent(value), a, b, Part::NOTHING, ids);
+        self.append_record(
+            instr_number(kind),
+            id_or_absent(value),
+            a,
+            b,
+            Part::NOTHING,
+            ids,
+        );
     }
 
     // A terminator's record, with the id that it starts with.
     pub fn append_terminator(&mut self, kind: kinds::Terminator, first: u16, a: Part, b: Part)
         ensures { self.new ≡ appended (record_bytes (term_number kind) first (part_in a) (part_in b) no_part []) self.old }
     {
-        self.append_record(kind as u16, first, a, b, Part::NOTHING, &[]);
+        self.append_record(term_number(kind), first, a, b, Part::NOTHING, &[]);
     }
 
     fn append_record(&mut self, kind: u16, first: u16, a: Part, b: Part, c: Part, ids: &[ValueId])

@@ -8,7 +8,7 @@ mod part; // a part of a record
 mod records; // records appended to the log
 pub mod refusals; // why lowering refuses
 
-pub use ctx::{Blocks, FnCtx};
+pub use ctx::{FnCtx, ThreeBlocks};
 pub use part::Part;
 pub use records::id_or_absent;
 pub use refusals::LoweringError;

@@ -1,10 +1,10 @@
 // Records appended to the log, as bytes.
 ghost use Rattle.std.specs.Prelude.{◌≡◌, ◌+◌, ◌*◌, ◌≤◌, length};
 ghost use Rattle.definitions.specs.Fields.{bytes};
-ghost use Rattle.lower_state.specs.Bytes.{part_in, first_number, record_bytes, id_bytes, ids_of, Stored, Added};
+ghost use Rattle.lower_state.specs.Bytes.{part_in, first_number, record_bytes, id_bytes, ids_of, Put, Added};
 
 use crate::{Log, Part};
-use format::{ABSENT, MOST, program};
+use format::{ABSENT, ID, LENGTH_BYTES, MOST, program};
 use ir::ValueId;
 
 // An id, or what stands for none.
@@ -20,7 +20,7 @@ pub fn id_or_absent(id: Option<ValueId>) -> u16
 // The n bytes of v, for which there is room; the place behind them.
 fn put(log: &mut Log, at: usize, n: usize, v: usize) -> usize
     requires { at + n ≤ 32768 }
-    ensures stored { Stored log.old at (bytes n v) log.new result }
+    ensures put { Put (bytes n v) log.old at log.new result }
     ensures behind { result ≡ at + n }
 {
     writer::write(log, at, n, v);
@@ -30,11 +30,11 @@ fn put(log: &mut Log, at: usize, n: usize, v: usize) -> usize
 // Ids, for which there is room; the place behind them.
 fn put_ids(log: &mut Log, at: usize, ids: &[ValueId]) -> usize
     requires { at + 2 * length ids.now ≤ 32768 }
-    ensures { Stored log.old at (id_bytes (ids_of ids.now)) log.new result }
+    ensures { Put (id_bytes (ids_of ids.now)) log.old at log.new result }
 {
     let mut to = at;
     for id in ids {
-        to = put(log, to, 2, id.0 as usize);
+        to = put(log, to, ID, id.0 as usize);
     }
     to
 }
@@ -54,14 +54,14 @@ pub(crate) fn put_record(
     requires { length ids.now ≤ 16 }
     ensures { Added log.old at (record_bytes kind first (part_in a) (part_in b) (part_in c) (ids_of ids.now)) log.new result }
 {
-    let size = program::OWN + a.width + b.width + c.width + 2 * ids.len();
+    let size = program::OWN + a.width + b.width + c.width + ID * ids.len();
     if MOST - size < at {
         return None;
     }
-    let to = put(log, at, 4, size);
+    let to = put(log, at, LENGTH_BYTES, size);
     let to = put(log, to, 2, kind as usize);
     let to = put(log, to, program::ORIGIN, 0);
-    let to = put(log, to, 2, first as usize);
+    let to = put(log, to, ID, first as usize);
     let to = put(log, to, a.width, a.number);
     let to = put(log, to, b.width, b.number);
     let to = put(log, to, c.width, c.number);

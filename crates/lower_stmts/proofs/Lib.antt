@@ -1,3 +1,2 @@
-mod Bodies
-mod Names
-mod Statements
+pub mod Names
+pub mod Statements

@@ -21,15 +21,15 @@ abbrev pub OneSheet : Expr → Stmts → Type 0
 OneSheet e b = b.contract.sheet.now ≡ e.contract.sheet.now
 
 -- an If whose second arm may have no statements, as `walk_stmt` has it
-unfoldable pub if_on : Contract → (scope : ℕ) → Held → ast.Expr → (a b : ast.Stmts) → LogCtx → Lowering LogCtx
+unfoldable pub if_on : Contract → (scope : ℕ) → Held → ast.Expr → (a b : ast.Stmts) → LogCtx → Lowering (LogCtx × Held)
 if_on K n es cond a b c = do
   (c, k) ← enter_if K es cond c
   c ← walk_stmts K (suc n) es a c
   c ← walk_stmts K (suc n) es b (next_arm k.third k.second c)
-  ok (next_arm k.third k.third c)
+  ok (next_arm k.third k.third c, es)
 
 -- the same of nodes
-abbrev pub if_nodes : Expr → (a b : Stmts) → HeldNames → LogCtx → Lowering LogCtx
+abbrev pub if_nodes : Expr → (a b : Stmts) → HeldNames → LogCtx → Lowering (LogCtx × Held)
 if_nodes e a b h c = if_on (contract_in e.contract) h.scope h.held (expr_in e) (stmts_in a) (stmts_in b) c
 
 -- a While and a For of nodes, at any places

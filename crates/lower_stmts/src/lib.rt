@@ -5,7 +5,7 @@
 // `OneSheet`: each node knows its own sheet. A struct for the nodes of each statement would be three types for one clause each.
 #![tactic(auto)]
 
-ghost use Rattle.std.specs.Prelude.{◌≡◌, ℕ, suc};
+ghost use Rattle.std.specs.Prelude.{◌≡◌, ◌≤◌, ℕ, suc, length};
 ghost use Rattle.contract_nodes.specs.Nodes.{contract_in, stmt_in, stmts_in};
 ghost use Rattle.lower_walk.specs.Stmts.{walk_stmts};
 ghost use Rattle.lower_walk.specs.Grown.{Grown};
@@ -37,6 +37,7 @@ fn lower_body(ctx: &mut FnCtx, scopes: &mut Scopes, body: Stmts) -> Result<(), L
 
 // If: the condition, then both arms. An arm that is absent is one without statements.
 #[cycle(stmts)]
+#[tactic(auto, unfolding(crate::specs::Bodies::if_on))]
 fn lower_if(
     ctx: &mut FnCtx,
     scopes: &mut Scopes,
@@ -46,7 +47,7 @@ fn lower_if(
 ) -> Result<(), LoweringError>
     requires room { HasRoom ctx.old scopes.old (suc then.depth) × HasRoom ctx.old scopes.old (suc otherwise.depth) }
     requires one_sheet { OneSheet condition then × OneSheet condition otherwise }
-    ensures is { done_after ctx.new result ≡ if_nodes condition.entry then.entry otherwise.entry scopes.old ctx.old }
+    ensures is { stated ctx.new scopes.old result ≡ if_nodes condition.entry then.entry otherwise.entry scopes.old ctx.old }
     ensures same_names { scopes.new ≡ scopes.old }
     ensures grown { Grown ctx.old ctx.new }
 {
@@ -61,6 +62,7 @@ fn lower_if(
 
 // While: the condition in its header, then the body.
 #[cycle(stmts)]
+#[tactic(auto, unfolding(lower_walk::specs::Stmts::walk_stmt))]
 fn lower_while(
     ctx: &mut FnCtx,
     scopes: &mut Scopes,
@@ -81,6 +83,7 @@ fn lower_while(
 
 // For: the bounds, the header, then the body, in which the loop's name is held.
 #[cycle(stmts)]
+#[tactic(auto, unfolding(lower_walk::specs::Stmts::walk_stmt))]
 fn lower_for(
     ctx: &mut FnCtx,
     scopes: &mut Scopes,
@@ -91,7 +94,8 @@ fn lower_for(
 ) -> Result<(), LoweringError>
     requires room { HasRoom ctx.old scopes.old (suc body.depth) }
     requires one_sheet { (end.contract.sheet.now ≡ start.contract.sheet.now) × OneSheet start body }
-    ensures is { (p q : ℕ) → stated ctx.new scopes.old result ≡ stmt_on start.entry.contract scopes.old (for_of p q name.0 start.entry end.entry body.entry) ctx.old }
+    ensures is { (p q : ℕ) → stated ctx.new scopes.old result
+        ≡ stmt_on start.entry.contract scopes.old (for_of p q name.0 start.entry end.entry body.entry) ctx.old }
     ensures same_names { scopes.new ≡ scopes.old }
     ensures grown { Grown ctx.old ctx.new }
 {
@@ -113,6 +117,7 @@ fn lower_stmt(ctx: &mut FnCtx, scopes: &mut Scopes, t: Stmt) -> Result<(), Lower
     requires { HasRoom ctx.old scopes.old t.depth }
     ensures is { stated ctx.new scopes.new result ≡ stmt_on t.entry.contract scopes.old (stmt_in t.entry) ctx.old }
     ensures names { Extends scopes.old scopes.new }
+    ensures room { length scopes.new.held ≤ length ctx.new.locals }
     ensures grown { Grown ctx.old ctx.new }
 {
     match t.node() {
@@ -138,6 +143,7 @@ fn lower_stmt(ctx: &mut FnCtx, scopes: &mut Scopes, t: Stmt) -> Result<(), Lower
 
 // The statements of a function, an arm or a body. Those after a terminator are skipped.
 #[cycle(stmts)]
+#[tactic(auto, unfolding(lower_walk::specs::Stmts::walk_stmts))]
 pub fn lower_stmts(ctx: &mut FnCtx, scopes: &mut Scopes, body: Stmts) -> Result<(), LoweringError>
     requires { HasRoom ctx.old scopes.old body.depth }
     ensures is { done_after ctx.new result ≡ walk_stmts (contract_in body.entry.contract) scopes.old.scope scopes.old.held (stmts_in body.entry) ctx.old }

@@ -10,8 +10,7 @@ use Rattle.ir.specs.declared.IrType as code
 use Rattle.ir.specs.declared.ValueId.{ValueId}
 use Rattle.lower_walk.specs.Log.{Log}
 use Rattle.lower_walk.specs.Stmts.{LogCtx, with_log}
-use Rattle.lower_walk.specs.Exprs.{Walked, push_value}
-use Rattle.lower_values.specs.Calls.{Called, context, poseidon_call, user_call}
+use Rattle.lower_walk.specs.Exprs.{Walked, push_value, Called, context, poseidon_call, user_call}
 use Rattle.lower_values.specs.declared.calls.Callee.{Callee}
 use Rattle.lower_values.specs.declared.calls.Callee.TheVariants as callee
 

@@ -3,10 +3,9 @@ ghost use Rattle.std.specs.Prelude.{◌≡◌, IfErr};
 ghost use Rattle.ir.specs.Answers.{result_of, option_of};
 ghost use Rattle.ir.specs.Types.{as_type};
 ghost use Rattle.contract_nodes.specs.Nodes.{contract_in};
-ghost use Rattle.lower_walk.specs.Exprs.{walk_user_call};
+ghost use Rattle.lower_walk.specs.Exprs.{resolve_user, resolve, finish_call, walk_user_call};
 ghost use Rattle.lower_state.specs.Answers.{with_state};
 ghost use Rattle.lower_state.specs.Errors.{error_of};
-ghost use Rattle.lower_values.specs.Calls.{resolve_user, resolve, finish_call};
 ghost use Rattle.lower_values.specs.Values.{value_in, called_of, LogAlone};
 
 use crate::Value;
@@ -26,6 +25,7 @@ pub enum Callee {
 }
 
 // A function of the contract.
+#[tactic(auto, unfolding(lower_walk::specs::Exprs::resolve_user, contract_lookup::specs::Answers::id_named))]
 fn user_callee(contract: Contract, name: Name) -> Result<Callee, LoweringError>
     ensures { result_of error_of called_of result ≡ resolve_user (contract_in contract.entry) name.0 }
 {
@@ -35,7 +35,7 @@ fn user_callee(contract: Contract, name: Name) -> Result<Callee, LoweringError>
 }
 
 // What a name stands for in a call with so many arguments, in the order of `lower_call`.
-#[tactic(auto, unfolding(crate::specs::Calls::resolve))]
+#[tactic(auto, unfolding(lower_walk::specs::Exprs::resolve))]
 pub fn callee_named(contract: Contract, name: Name, many: usize) -> Result<Callee, LoweringError>
     ensures { result_of error_of called_of result ≡ resolve (contract_in contract.entry) name.0 many }
 {
@@ -69,6 +69,7 @@ fn call_user(ctx: &mut FnCtx, function: FunctionId, ty: IrType, args: &Args) -> 
 
 // The call itself, with the values of its arguments. The promise is for any list of arguments, and so a Poseidon is refused here too if they are not
 // two; behind `callee_named` they are.
+#[tactic(auto, unfolding(lower_walk::specs::Exprs::push_value))]
 pub fn finish_call(
     ctx: &mut FnCtx,
     callee: Callee,

@@ -3,7 +3,7 @@ ghost use Rattle.std.specs.Prelude.{◌≡◌, IfErr};
 ghost use Rattle.definitions.specs.ContractSheet.{op_of};
 ghost use Rattle.definitions.specs.Ir as defs;
 ghost use Rattle.definitions.specs.Ir.{Instruction, binary_type};
-ghost use Rattle.format.specs.Operators.{op_number};
+ghost use Rattle.format.specs.Operators.{operator_number};
 ghost use Rattle.ir.specs.Types.{as_type};
 ghost use Rattle.contract_nodes.specs.Nodes.{contract_in};
 ghost use Rattle.lower_walk.specs.Exprs.{push_value, walk_ident, walk_storage_read, walk_field};
@@ -30,6 +30,7 @@ pub fn lower_int(ctx: &mut FnCtx, number: usize) -> Value
 }
 
 // A name that is held.
+#[tactic(auto, unfolding(lower_walk::specs::Exprs::walk_ident, lower_walk::specs::Exprs::push_value))]
 pub fn lower_ident(ctx: &mut FnCtx, scopes: &Scopes, name: Name) -> Result<Value, LoweringError>
     ensures is { with_state some_value ctx.new.log result ≡ walk_ident scopes.now.held name.0 ctx.old.log }
     ensures log_alone { LogAlone ctx.old ctx.new }
@@ -42,6 +43,7 @@ pub fn lower_ident(ctx: &mut FnCtx, scopes: &Scopes, name: Name) -> Result<Value
 }
 
 // A storage field.
+#[tactic(auto, unfolding(lower_walk::specs::Exprs::walk_storage_read, lower_walk::specs::Exprs::push_value, contract_lookup::specs::Answers::slot_named))]
 pub fn lower_storage_read(
     ctx: &mut FnCtx,
     contract: Contract,
@@ -56,6 +58,7 @@ pub fn lower_storage_read(
 }
 
 // A field of a value.
+#[tactic(auto, unfolding(lower_walk::specs::Exprs::walk_field, lower_walk::specs::Exprs::push_value))]
 pub fn lower_field(
     ctx: &mut FnCtx,
     contract: Contract,
@@ -73,7 +76,7 @@ pub fn lower_field(
 
 // What an operator gives on operands of a type.
 fn binary_type(op: BinOp, ty: IrType) -> IrType
-    ensures { as_type result ≡ binary_type (op_of (op_number op)) (as_type ty) }
+    ensures { as_type result ≡ binary_type (op_of (operator_number op)) (as_type ty) }
 {
     match op {
         BinOp::Add | BinOp::Sub | BinOp::Mul | BinOp::Div => ty,
@@ -84,7 +87,7 @@ fn binary_type(op: BinOp, ty: IrType) -> IrType
 // An operator on two values, the left of a type.
 #[tactic(auto, unfolding(lower_walk::specs::Exprs::push_value))]
 pub fn lower_binary(ctx: &mut FnCtx, op: BinOp, ty: IrType, lhs: ValueId, rhs: ValueId) -> Value
-    ensures is { gives_value ctx.new.log result ≡ push_binary (op_of (op_number op)) (as_type ty) lhs.0 rhs.0 ctx.old.log }
+    ensures is { gives_value ctx.new.log result ≡ push_binary (op_of (operator_number op)) (as_type ty) lhs.0 rhs.0 ctx.old.log }
     ensures log_alone { LogAlone ctx.old ctx.new }
 {
     (emit_binary(ctx, op, ty, lhs, rhs), binary_type(op, ty))

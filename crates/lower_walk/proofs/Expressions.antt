@@ -16,9 +16,9 @@ use Rattle.definitions.specs.Lower
 use Rattle.definitions.proofs.Results.{by_test}
 use Rattle.lower_walk.specs.Log.{Log}
 use Rattle.lower_walk.specs.Stmts.{LogCtx, with_log}
-use Rattle.lower_walk.specs.Exprs.{Walked, push_value, need_value, walk_ident, walk_storage_read, walk_field, walk_user_call, walk_call, walk_expr, walk_args, walk_expr_value}
+use Rattle.lower_walk.specs.Exprs.{Walked, push_value, need_value, walk_ident, walk_storage_read, field_offset, walk_field, walk_user_call, resolve_user, resolve_fn, resolve, with_arguments, walk_call, walk_expr, walk_args, walk_expr_value}
 use Rattle.lower_walk.proofs.Tied.{Later, After, after, Now, value_is, push_now}
-use Rattle.lower_walk.proofs.Related.{Rel, bad, good, bind_o, joined, bind_l, EV, ev, EO, eno, eso, EL, eln, elc, el_is, call_value, Pair, pair, bind_v, bind_e}
+use Rattle.lower_walk.proofs.Related.{Rel, bad, good, nested, bind_o, joined, bind_l, EV, ev, EO, eno, eso, EL, eln, elc, el_is, call_value, Pair, pair, bind_v, bind_e}
 
 module _ (K : Contract) {Q : List ℕ} {t : Scope} {up : List Scope} {d : LogCtx} where
   pushed_pair : {f₀ f : Bool} {A : Type 0} {E : Bool → A → A → Type 0} {c : FnCtx} {l : Log} {a b : A} → Later f₀ f → ((g : Bool) → Later f g → E g a b) → After f (λ g. Now 0 Q t up false g c (with_log l d)) → Rel (Pair Q t up d f₀ A E) (ok (c, a)) (ok (l, b))
@@ -43,22 +43,22 @@ module _ (K : Contract) {Q : List ℕ} {t : Scope} {up : List Scope} {d : LogCtx
   two_same _ _ le (elc n m _ _ e (elc n' m' _ _ e' (elc i j _ _ e'' h))) N = bad LoweringError.PoseidonArguments
 
   call_same : (k : Callee) (n many : ℕ) (args : FnCtx → Lowering (FnCtx × List ℕ)) (args' : Log → Lowering (Log × List ℕ)) {c : FnCtx} {l : Log} {f : Bool} → Rel (Pair Q t up d f (List ℕ) EL) (args c) (args' l) → Now 0 Q t up false f c (with_log l d)
-      → Rel (Pair Q t up d f (Option Value) EO) (lower_call K k n many args c) (walk_call K k n many args' l)
-  unfolding lower_call walk_call walk_user_call push_instr
+      → Rel (Pair Q t up d f (Option Value) EO) (lower_call K k n many args c) (resolve_fn K k n many >>= λ d. with_arguments d args' l)
+  unfolding lower_call resolve_user walk_user_call push_instr
   call_same (context_fn c) n many args args' h N = value_push IrType.U64 (λ q. q) (λ q. refl) N
   call_same poseidon_fn n many args args' h N =
       by_test (eqb many 2)
-      (λ q. rw (q, lower_call, walk_call) (bind_e _ _ h λ c l g a b le e N. two_same a b le e N))
-      (λ q. rw (q, lower_call, walk_call) (bad LoweringError.PoseidonArguments))
+      (λ q. rw (q, lower_call, resolve_fn) (bind_e _ _ h λ c l g a b le e N. two_same a b le e N))
+      (λ q. rw (q, lower_call, resolve_fn) (bad LoweringError.PoseidonArguments))
   call_same merkle_proof_fn n many args args' h N = bad LoweringError.MerkleProof
   call_same user_fn n many args args' h N =
-      bind_o (function_named K n) (LoweringError.UndefinedFunction n) _ _ λ f.
+      simp nested (bind_o (function_named K n) (LoweringError.UndefinedFunction n) _ _ λ f.
       bind_e _ _ h λ c l g a b le e N.
       pushed_pair le (λ g h. call_value (unless_void (Sema.return_type f.1.return_type)) c.next_value l.value g (λ q. value_is N (h q)))
-      (push_now (omega arith) (λ q. ap (λ (x : List ℕ). Instruction.Call f.0 x (Sema.return_type f.1.return_type)) (el_is e q)) N)
+      (push_now (omega arith) (λ q. ap (λ (x : List ℕ). Instruction.Call f.0 x (Sema.return_type f.1.return_type)) (el_is e q)) N))
 
   mutual
-    unfolding lower_expr walk_expr walk_ident walk_storage_read walk_field
+    unfolding lower_expr walk_expr walk_ident walk_storage_read field_offset walk_field resolve walk_call
 
     expr_in : (x : Expr) {c : FnCtx} {l : Log} {f : Bool} → Now 0 Q t up false f c (with_log l d) → Rel (Pair Q t up d f (Option Value) EO) (lower_expr K x c) (walk_expr K (joined (t ∷ up)) x l)
     expr_in (Expr.Int p n) N = value_push IrType.U64 (λ q. q) (λ q. refl) N
@@ -71,10 +71,10 @@ module _ (K : Contract) {Q : List ℕ} {t : Scope} {up : List Scope} {d : LogCtx
     expr_in (Expr.MappingRead p n x) N = bad LoweringError.MappingRead
     expr_in (Expr.FieldAccess p f x) N =
         bind_v _ _ (value_same (expr_in x N)) λ c l g n m y le e N.
-        bind_o (struct_name_of y) LoweringError.FieldOfNonStruct _ _ λ j.
+        simp nested (bind_o (struct_name_of y) LoweringError.FieldOfNonStruct _ _ λ j.
         bind_o (struct_named K j) (LoweringError.UnresolvedType j) _ _ λ d.
         bind_o (field_position d.1.fields f) (LoweringError.NoSuchField j f) _ _ λ i.
-        value_push IrType.U64 le (λ q. ap (λ (z : ℕ). Instruction.Load IrType.U64 z (i * 8)) (e q)) N
+        value_push IrType.U64 le (λ q. ap (λ (z : ℕ). Instruction.Load IrType.U64 z (i * 8)) (e q)) N)
     expr_in (Expr.StructLiteral p n fs) N = bad LoweringError.StructLiteral
     expr_in (Expr.Binary p op x y) N =
         bind_v _ _ (value_same (expr_in x N)) λ c l g n m z le e N.

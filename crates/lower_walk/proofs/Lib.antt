@@ -1,3 +1,4 @@
+pub mod Trees
 pub mod Parts
 pub mod Prims
 pub mod Tied
@@ -7,4 +8,3 @@ pub mod Steps
 pub mod Statements
 pub mod Laid
 pub mod Functions
-pub mod Grown

@@ -1,7 +1,7 @@
 -- The blocks of a function under way, and their parts of the log. Assumes nothing.
 use Prim.Native.Nat.{ℕ, zero, suc, ◌+◌, ◌≤◌, ◌<◌}
 use mathlib.Core.Path.{◌≡◌, refl, sym, ◌∙◌, ap}
-use mathlib.Core.List.{List, [], ◌∷◌, ◌++◌, append_assoc, append-nil}
+use mathlib.Core.List.{List, [], ◌∷◌, ◌++◌, append_assoc}
 use mathlib.Core.Option.{none, some}
 use mathlib.Core.Bool.{Bool, true, false}
 use lib.Dec.{eqb}
@@ -11,11 +11,12 @@ use borrow.Author.Tests.{eq-eqb, ne_eqb}
 use Rattle.definitions.specs.Ir.{Terminator, InstrNode, BasicBlock, find, update}
 use Rattle.definitions.specs.Lower.{empty_block, add_instr, put_terminator, is_terminated}
 use Rattle.definitions.specs.Verify.{block_ids}
-use Rattle.definitions.specs.Records.{Tree, tnil, tcons, write_tree, write_trees, treesOf}
+use Rattle.definitions.specs.Records.{write_tree, write_trees, treesOf}
 use Rattle.definitions.specs.ProgramSheet.{instr_tree, term_tree, opt_term_tree}
 use Rattle.definitions.proofs.Results.{by_test}
 use Rattle.definitions.proofs.Runs.Safe.{In, find_hit, find_miss}
 use Rattle.definitions.proofs.Runs.Blocks.{update_hit, update_miss, find_append_new, Distinct}
+use Rattle.lower_walk.proofs.Trees.{trees_end, trees_more}
 
 -- where blocks start and stop in the log
 pub record Marks : Type 0 where
@@ -64,20 +65,11 @@ pub record Parts (e : Bool) (Q : List ℕ) (cur count : ℕ) (bs : List BasicBlo
 pub closed_more : {out : List ℕ} {a z : ℕ} {x : List ℕ} (y : List ℕ) → Closed out a z x → Closed (out ++ y) a z x
 closed_more y c = record { pre = c.pre; post = c.post ++ y; is = rw c.is (simp append_assoc); start = c.start; stop = c.stop }
 
-trees_then : {A : Type 0} (f : A → Tree) (l : List A) (t : Tree) → write_trees (treesOf f l (tcons t tnil)) ≡ write_trees (treesOf f l tnil) ++ write_tree t
-unfolding write_trees
-trees_then f [] t = append-nil (write_tree t)
-trees_then f (a ∷ l) t = rw (trees_then f l t, append_assoc)
-
-trees_snoc : {A : Type 0} (f : A → Tree) (l : List A) (a : A) → treesOf f (l ++ (a ∷ [])) tnil ≡ treesOf f l (tcons (f a) tnil)
-trees_snoc f [] a = refl
-trees_snoc f (x ∷ l) a = ap (tcons (f x)) (trees_snoc f l a)
-
 pub added : (n : InstrNode) (b : BasicBlock) → b.terminator ≡ none → written (add_instr n b) ≡ written b ++ write_tree (instr_tree n)
-added n b e = rw e (ap write_trees (trees_snoc instr_tree b.instrs n) ∙ trees_then instr_tree b.instrs (instr_tree n))
+added n b e = rw e (trees_more instr_tree b.instrs n)
 
 pub ended : (t : Terminator) (b : BasicBlock) → b.terminator ≡ none → written (put_terminator t b) ≡ written b ++ write_tree (term_tree t)
-ended t b e = rw e (trees_then instr_tree b.instrs (term_tree t))
+ended t b e = rw e (trees_end instr_tree b.instrs (term_tree t))
 
 -- ---- blocks
 pub weight_update : (j : ℕ) (g : BasicBlock → BasicBlock) (keeps : (b : BasicBlock) → (g b).id ≡ b.id) (bs : List BasicBlock) (b : BasicBlock) (n : ℕ) → find j bs ≡ some b → length (written (g b)) ≡ length (written b) + n → weight (update j g bs) ≡ weight bs + n

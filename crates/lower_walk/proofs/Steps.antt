@@ -16,7 +16,7 @@ use Rattle.definitions.specs.Lower
 use Rattle.definitions.proofs.Results.{by_test}
 use Rattle.lower_walk.specs.Log.{Log}
 use Rattle.lower_walk.specs.Held.{Held}
-use Rattle.lower_walk.specs.Stmts.{LogCtx, Blocks, Bounds, init_local, three_blocks, terminate_if_open, for_header, for_next, for_step}
+use Rattle.lower_walk.specs.Stmts.{LogCtx, ThreeBlocks, Bounds, init_local, three_blocks, terminate_if_open, for_header, for_next, for_step}
 use Rattle.lower_walk.proofs.Parts.{Marks}
 use Rattle.lower_walk.proofs.Prims.{three_parts}
 use Rattle.lower_walk.proofs.Tied.{Tied, whole, over, Later, After, after, then, same, Now, now, value_is, ended_now, push_now, term_now}
@@ -57,7 +57,7 @@ module _ {C D : Type 0} {R : C → D → Type 0} {Q : List ℕ} {t : Scope} {up 
       (λ q. rw (q, fresh_local, init_local) (bad (LoweringError.TooManyBlocksOrLocals fid)))
 
   -- blocks
-  pub three_same : {g : Bool} {c : FnCtx} {d : LogCtx} (h : FnCtx × ℕ × ℕ × ℕ → Lowering C) (h' : LogCtx × Blocks → Lowering D) → Now 0 Q t up false g c d
+  pub three_same : {g : Bool} {c : FnCtx} {d : LogCtx} (h : FnCtx × ℕ × ℕ × ℕ → Lowering C) (h' : LogCtx × ThreeBlocks → Lowering D) → Now 0 Q t up false g c d
       → ((c : FnCtx) (d : LogCtx) (a b z : ℕ) → Now 0 (a ∷ b ∷ z ∷ Q) t up false g c d → Rel R (h (c, a, b, z)) (h' (d, record { first = a; second = b; third = z }))) → Rel R (Lower.three_blocks c >>= h) (three_blocks d >>= h')
   unfolding Lower.three_blocks fresh_block with_block three_blocks
   three_same h h' (now fid cur count v ls bs l k T) more =

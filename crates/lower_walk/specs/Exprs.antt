@@ -31,33 +31,67 @@ walk_storage_read K n c = do
   (slot, _) ← ok_or_else (storage_named K n) (LoweringError.UndefinedVariable n)
   ok (push_value (Instruction.StateRead IrType.U64 slot) IrType.U64 c)
 
--- the field f of the value `base` of type ty
-unfoldable pub walk_field : Contract → ℕ → ℕ → IrType → Log → Lowering Walked
-walk_field K f base ty c = do
+-- the offset of the field f in a value of type ty
+unfoldable pub field_offset : Contract → IrType → ℕ → Lowering ℕ
+field_offset K ty f = do
   s ← ok_or_else (struct_name_of ty) LoweringError.FieldOfNonStruct
   (_, decl) ← ok_or_else (struct_named K s) (LoweringError.UnresolvedType s)
   i ← ok_or_else (field_position decl.fields f) (LoweringError.NoSuchField s f)
-  ok (push_value (Instruction.Load IrType.U64 base (i * 8)) IrType.U64 c)
+  ok (i * 8)
+
+-- the field f of the value `base` of type ty
+unfoldable pub walk_field : Contract → ℕ → ℕ → IrType → Log → Lowering Walked
+walk_field K f base ty c = do
+  offset ← field_offset K ty f
+  ok (push_value (Instruction.Load IrType.U64 base offset) IrType.U64 c)
 
 -- a call of a function, its arguments' values being known
 unfoldable pub walk_user_call : ℕ → IrType → List ℕ → Log → Walked
 walk_user_call fid ty args c = (log_instr (Instruction.Call fid args ty) c, result_value (unless_void ty) c.value)
 
-unfoldable pub walk_call : Contract → Callee → ℕ → ℕ → (Log → Lowering (Log × List ℕ)) → Log → Lowering Walked
-walk_call K (context_fn k) n many walkArguments c = ok (push_value (Instruction.ContextRead k) IrType.U64 c)
-walk_call K poseidon_fn n many walkArguments c =
-    elim (eqb many 2) [
-      | false ↦ err LoweringError.PoseidonArguments
-      | true ↦ do
-        (c, args) ← walkArguments c
-        (lhs, rhs) ← ok_or_else (two_of args) LoweringError.PoseidonArguments
-        ok (push_value (Instruction.Poseidon lhs rhs) IrType.U64 c)
-    ]
-walk_call K merkle_proof_fn n many walkArguments c = err LoweringError.MerkleProof
-walk_call K user_fn n many walkArguments c = do
+-- what a name stands for in a call: a read of the context, the hash of two values, a function of the contract
+pub data Called : Type 0 where
+  context : (kind : ℕ) → Called
+  poseidon_call : Called
+  user_call : (function : ℕ) → IrType → Called
+
+unfoldable pub resolve_user : Contract → ℕ → Lowering Called
+resolve_user K n = do
   (fid, f) ← ok_or_else (function_named K n) (LoweringError.UndefinedFunction n)
+  ok (user_call fid (Sema.return_type f.return_type))
+
+abbrev pub resolve_fn : Contract → Callee → ℕ → ℕ → Lowering Called
+resolve_fn K (context_fn k) n many = ok (context k)
+resolve_fn K poseidon_fn n many = elim (eqb many 2) [ false ↦ err LoweringError.PoseidonArguments | true ↦ ok poseidon_call ]
+resolve_fn K merkle_proof_fn n many = err LoweringError.MerkleProof
+resolve_fn K user_fn n many = resolve_user K n
+
+-- what the name n stands for in a call with so many arguments
+unfoldable pub resolve : Contract → ℕ → ℕ → Lowering Called
+resolve K n many = resolve_fn K (callee n) n many
+
+-- the call, its arguments' values being known
+abbrev pub finish_call : Called → List ℕ → Log → Lowering Walked
+finish_call (context k) args c = ok (push_value (Instruction.ContextRead k) IrType.U64 c)
+finish_call poseidon_call args c = do
+  (lhs, rhs) ← ok_or_else (two_of args) LoweringError.PoseidonArguments
+  ok (push_value (Instruction.Poseidon lhs rhs) IrType.U64 c)
+finish_call (user_call f t) args c = ok (walk_user_call f t args c)
+
+-- what is left of a call, once it is known what is called: its arguments, which a read of the context ignores, and the call itself
+abbrev pub with_arguments : Called → (Log → Lowering (Log × List ℕ)) → Log → Lowering Walked
+with_arguments (context k) walkArguments c = finish_call (context k) [] c
+with_arguments poseidon_call walkArguments c = do
   (c, args) ← walkArguments c
-  ok (walk_user_call fid (Sema.return_type f.return_type) args c)
+  finish_call poseidon_call args c
+with_arguments (user_call f t) walkArguments c = do
+  (c, args) ← walkArguments c
+  finish_call (user_call f t) args c
+
+unfoldable pub walk_call : Contract → ℕ → ℕ → (Log → Lowering (Log × List ℕ)) → Log → Lowering Walked
+walk_call K n many walkArguments c = do
+  called ← resolve K n many
+  with_arguments called walkArguments c
 
 unfoldable mutual
   pub walk_expr : Contract → Held → Expr → Log → Lowering Walked
@@ -68,7 +102,7 @@ unfoldable mutual
     (c, (rhs, _)) ← walk_expr K es r c >>= need_value
     ok (push_value (Instruction.Binary op ty lhs rhs) (binary_type op ty) c)
   walk_expr K es (Expr.StorageRead p n) c = walk_storage_read K n c
-  walk_expr K es (Expr.Call p n args) c = walk_call K (callee n) n (count args) (λ d. walk_args K es args d) c
+  walk_expr K es (Expr.Call p n args) c = walk_call K n (count args) (λ d. walk_args K es args d) c
   walk_expr K es (Expr.FieldAccess p f e) c = do
     (c, (base, ty)) ← walk_expr K es e c >>= need_value
     walk_field K f base ty c

@@ -1,5 +1,5 @@
 -- What a function under way keeps, whatever becomes of it, also a refusal. Assumes nothing: these are definitions.
-use Rattle.std.specs.Prelude.{◌≤◌, ◌≡◌, length}
+use Rattle.std.specs.Prelude.{◌≤◌, ◌<◌, ◌≡◌, length}
 use Rattle.lower_walk.specs.Stmts.{LogCtx}
 
 -- the function is the same, and no block and no local is lost
@@ -7,3 +7,8 @@ pub record Grown (before after : LogCtx) : Type 0 where
   pub function : before.fid ≡ after.fid
   pub blocks : before.next_block ≤ after.next_block
   pub locals : length before.locals ≤ length after.locals
+
+-- a local was made, which is not the 257th
+pub record LocalMade (before after : LogCtx) : Type 0 where
+  pub more : length before.locals < length after.locals
+  pub few : length before.locals < 256

@@ -39,12 +39,12 @@ unfoldable pub switch_to : ℕ → LogCtx → LogCtx
 switch_to k c = record { fid = c.fid; log = c.log; next_block = c.next_block; current = k; ended = false; locals = c.locals; starts = set c.starts k c.log.at; stops = c.stops }
 
 -- the three blocks of an If, a While or a For
-pub record Blocks : Type 0 where
+pub record ThreeBlocks : Type 0 where
   pub first : ℕ
   pub second : ℕ
   pub third : ℕ
 
-unfoldable pub three_blocks : LogCtx → Lowering (LogCtx × Blocks)
+unfoldable pub three_blocks : LogCtx → Lowering (LogCtx × ThreeBlocks)
 three_blocks c =
     pick (leb (c.next_block + 3) 256)
     (ok (record { fid = c.fid; log = c.log; next_block = c.next_block + 3; current = c.current; ended = c.ended; locals = c.locals; starts = c.starts; stops = c.stops }, record { first = c.next_block; second = c.next_block + 1; third = c.next_block + 2 }))
@@ -64,20 +64,20 @@ unfoldable pub next_arm : (target k : ℕ) → LogCtx → LogCtx
 next_arm target k c = switch_to k (terminate_if_open (Terminator.Jump target) c)
 
 -- IF: the condition, the blocks and the branch; the then block is open
-unfoldable pub enter_if : Contract → Held → Expr → LogCtx → Lowering (LogCtx × Blocks)
+unfoldable pub enter_if : Contract → Held → Expr → LogCtx → Lowering (LogCtx × ThreeBlocks)
 enter_if K es cond c = do
   (l, (v, _)) ← walk_expr_value K es cond c.log
   (c, b) ← three_blocks (with_log l c)
   ok (switch_to b.first (terminate (Terminator.Branch v b.first b.second) c), b)
 
 -- WHILE: the condition in the header, which is open, and the branch; then the body is open
-unfoldable pub while_header : Contract → Held → Expr → Blocks → LogCtx → Lowering (LogCtx × Blocks)
+unfoldable pub while_header : Contract → Held → Expr → ThreeBlocks → LogCtx → Lowering (LogCtx × ThreeBlocks)
 while_header K es cond b c = do
   (l, (v, _)) ← walk_expr_value K es cond c.log
   ok (switch_to b.second (terminate (Terminator.Branch v b.second b.third) (with_log l c)), b)
 
 -- the blocks, the jump to the header, and the header
-unfoldable pub enter_while : Contract → Held → Expr → LogCtx → Lowering (LogCtx × Blocks)
+unfoldable pub enter_while : Contract → Held → Expr → LogCtx → Lowering (LogCtx × ThreeBlocks)
 enter_while K es cond c = do
   (c, b) ← three_blocks c
   while_header K es cond b (switch_to b.first (terminate (Terminator.Jump b.first) c))
@@ -108,7 +108,7 @@ for_header i body exit c =
     terminate (Terminator.Branch c₂.log.value body exit) c₃
 
 -- the blocks, the header and the open body
-unfoldable pub for_blocks : Bounds → LogCtx → Lowering (LogCtx × Blocks)
+unfoldable pub for_blocks : Bounds → LogCtx → Lowering (LogCtx × ThreeBlocks)
 for_blocks i c = do
   (c, b) ← three_blocks c
   ok (switch_to b.second (for_header i b.second b.third (switch_to b.first (terminate (Terminator.Jump b.first) c))), b)

@@ -6,7 +6,7 @@ ghost use Rattle.definitions.specs.Ast as ast;
 ghost use Rattle.definitions.specs.Bench.{wrap, binary_word};
 ghost use Rattle.definitions.specs.Bench as bench;
 ghost use Rattle.definitions.specs.ContractSheet.{op_of};
-ghost use Rattle.format.specs.Operators.{op_number};
+ghost use Rattle.format.specs.Operators.{operator_number};
 ghost use Rattle.machine_arithmetic.specs.Numbers.{word_or_stop};
 
 use format::operators::BinOp;
@@ -44,7 +44,7 @@ fn quotient(a: u64, b: u64) -> Result<u64, ZeroDivisor>
 // An operator on two words.
 #[tactic(auto, unfolding(definitions::specs::Bench::binary_word))]
 pub fn compute(op: BinOp, a: u64, b: u64) -> Result<u64, ZeroDivisor>
-    ensures { word_or_stop result ≡ binary_word (op_of (op_number op)) a b }
+    ensures { word_or_stop result ≡ binary_word (op_of (operator_number op)) a b }
 {
     match op {
         BinOp::Add => Ok(a.wrapping_add(b)),

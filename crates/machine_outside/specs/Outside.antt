@@ -10,7 +10,7 @@ use Rattle.format.specs.declared.program.ContextKind.{ContextKind}
 use Rattle.format.specs.declared.program.ContextKind.TheVariants as kind
 use Rattle.ir.specs.Answers.{result_of}
 use Rattle.program_nodes.specs.declared.block.Records.{Records}
-use Rattle.machine_state.specs.Running.{Running, Gone, DoesOutside, halt_of, at}
+use Rattle.machine_state.specs.Running.{Running, halt_of, Stepped, Gone, at, DoesOutside}
 use Rattle.machine_state.specs.declared.frame.Frame.{Frame}
 use Rattle.machine_state.specs.declared.halt.Halt.{Halt}
 use Rattle.machine_outside.specs.declared.lent.Outside.{Outside}
@@ -30,18 +30,18 @@ taken_into o m = do
   (n, m) ← take_outside m
   defs.ok (give_result o n m)
 
-pub record Takes (t : Frame) (before after outside rest : List ℕ) (o : maths.Option ℕ) (r : Result (Unit {0}) Halt) : Type 0 where
+pub record Takes (t : Frame) (before after outside rest : List ℕ) (o : maths.Option ℕ) (r : Stepped) : Type 0 where
   pub run : (frames state : List ℕ) (block : Option Records) (depth : ℕ) (m : Machine ℕ) → Running before frames state outside (at t block depth) m
       → Gone after frames state rest (at t block depth) r (taken_into o m)
   pub kept : (h : Halt) → r ≡ Err h → (after ≡ before) × (rest ≡ outside)
 
 -- what is left of them is of the same list, and where the run stops nothing of it is used
-pub record Uses (old new : Outside) (r : Result (Unit {0}) Halt) : Type 0 where
+pub record Uses (old new : Outside) (r : Stepped) : Type 0 where
   pub words : new.words.now ≡ old.words.now
   pub kept : (h : Halt) → r ≡ Err h → new ≡ old
 
 -- an instruction that takes one of them
-abbrev pub DoesTaking : Frame → (before after : List ℕ) → (old new : Outside) → maths.Option ℕ → Instruction → Result (Unit {0}) Halt → Type 0
+abbrev pub DoesTaking : Frame → (before after : List ℕ) → (old new : Outside) → maths.Option ℕ → Instruction → Stepped → Type 0
 DoesTaking t before after old new o i r = DoesOutside t before after (left old) (left new) o i r
 
 -- STATE WORDS: the answer is the machine's

@@ -1,9 +1,10 @@
 // The instructions on what is lent, and Store.
-ghost use Rattle.std.specs.Prelude.{◌≡◌, ◌<◌, ℕ, length, IfOk};
+ghost use Rattle.std.specs.Prelude.{◌<◌, ℕ, length, IfOk};
 ghost use Rattle.std.proofs.Math.Option as maths;
 ghost use Rattle.definitions.specs.Ir.{IrType, Instruction};
 ghost use Rattle.format.specs.Contexts.{context_number};
-ghost use Rattle.machine_state.specs.Frames.{id_of, Fits, Given};
+ghost use Rattle.machine_slots.specs.Slots.{id_of};
+ghost use Rattle.machine_state.specs.Frames.{Fits, Given};
 ghost use Rattle.machine_state.specs.Running.{Does, DoesState};
 ghost use Rattle.machine_outside.specs.Outside.{left, ReadsState, Takes, Uses, DoesTaking, DoesContext};
 

@@ -1,13 +1,13 @@
 -- A function has no more ids than bytes: an id is of a record, or of a parameter. Assumes nothing.
-use mathlib.Core.Path.{◌≡◌, refl, ap}
+use mathlib.Core.Path.{◌≡◌, ap}
 use mathlib.Core.List.{List}
 use mathlib.Core.Option.{Option, none, some}
 use Prim.Native.Nat.{ℕ, zero, suc, ◌+◌, ◌≤◌}
 use native.Mathlib.Omega.{arith}
 use lib.ListN.{length, length-append, length-map}
 use Rattle.definitions.specs.Fields.{le}
-use Rattle.definitions.specs.Grammar.{Entry}
-use Rattle.definitions.specs.Records.{opt_from, read_items}
+use Rattle.definitions.specs.Records.{opt_from}
+use Rattle.definitions.proofs.Sheets.Reads.{items_count}
 use Rattle.program_nodes.specs.Offsets.{param_count_at, fields_at}
 use Rattle.program_nodes.specs.Positions.{stop_here, instrs_here, blocks_here, params_here, BlockFrom, BlocksFrom}
 use Rattle.program_nodes.specs.Nodes.{ir_of}
@@ -15,11 +15,6 @@ use Rattle.program_nodes.specs.declared.program.Function.{Function}
 use Rattle.program_nodes.proofs.Walk.{at_record, at_end, at_instr, at_term, instrs_step, instrs_term, instrs_end, at_blocks, no_block_lem, at_block, blocks_step, blocks_end}
 use Rattle.program_nodes.proofs.Facts.{function_is}
 use Rattle.machine_slots.specs.Slots.{id_or_none, block_results, blocks_results, value_ids}
-
-items_count : (e : Entry) (n : ℕ) (s : List ℕ) (p : ℕ) → length (read_items e n s p) ≡ n
-unfolding read_items
-items_count e zero s p = refl
-items_count e (suc n) s p = ap suc (items_count e n s _)
 
 one_most : (o : Option ℕ) → length (id_or_none o) ≤ 1
 one_most none = omega arith

@@ -13,7 +13,7 @@ use Rattle.std.specs.Bool.{then_some}
 use Rattle.std.specs.Result.{result_err}
 use Rattle.ir.specs.Answers.{option_of}
 use Rattle.definitions.proofs.Results.{by_test}
-use Rattle.machine_slots.specs.Slots.{is_it, with_one, passed, searched, none_yet, index_of, Among, above, above_all, counted, slot_for, one_of}
+use Rattle.machine_slots.specs.Slots.{is_it, with_one, passed, searched, none_yet, index_of, Among, above, above_all, tally_of, slot_for, one_of}
 use Rattle.machine_slots.specs.declared.Tally.{Tally}
 
 -- what a search says of a list goes on over another
@@ -28,10 +28,6 @@ search_append v (x ∷ xs) ys i =
     by_test (is_it x v)
     (λ q. rw (q, searched))
     (λ q. rw (q, searched) (search_append v xs ys (with_one i x)))
-
-pub one_id : (i : Tally) (x : ℕ) (v : Option ℕ) → passed i x v ≡ searched i (x ∷ []) v
-unfolding searched
-one_id i x v = refl
 
 abbrev count_in : ℕ → Result Tally ℕ → ℕ
 count_in d (Ok j) = j.count
@@ -54,25 +50,28 @@ module _ {v : Option ℕ} {whole : Result Tally ℕ} {top : ℕ} {i : Tally} whe
   pub left_as : {xs ys : List ℕ} → xs ≡ ys → Left v whole top i xs → Left v whole top i ys
   left_as e L = subst (Left v whole top i) e L
 
-  pub left_on : (xs : List ℕ) {ys : List ℕ} {j : Tally} → Left v whole top i (xs ++ ys) → searched i xs v ≡ Ok j → Left v whole top j ys
-  left_on xs {ys} {j} L e =
-      let n : j.count ≡ i.count + length xs = subst (λ (r : Result Tally ℕ). count_in (i.count + length xs) r ≡ i.count + length xs) e (count_after v xs i) in
-      let r = L.room in
+  -- some of them, passed, or the one that is sought among them
+  pub left_on : {zs : List ℕ} (xs : List ℕ) {ys : List ℕ} {j : Tally} → Left v whole top i zs → zs ≡ xs ++ ys → Ok j ≡ searched i xs v → Left v whole top j ys
+  left_on xs {ys} {j} L z e =
+      let n : j.count ≡ i.count + length xs = subst (λ (r : Result Tally ℕ). count_in (i.count + length xs) r ≡ i.count + length xs) (sym e) (count_after v xs i) in
+      let r = (left_as z L).room in
       let m = rw length-append at r in
       record {
-        same = ap (λ (r : Result Tally ℕ). onward v r ys) (sym e) ∙ (sym (search_append v xs ys i) ∙ L.same);
+        same = ap (λ (r : Result Tally ℕ). onward v r ys) e ∙ (sym (search_append v xs ys i) ∙ (left_as z L).same);
         room = omega arith;
       }
 
-  pub left_found : (xs ys : List ℕ) {p : ℕ} → Left v whole top i (xs ++ ys) → searched i xs v ≡ Err p → Err p ≡ whole
-  left_found xs ys L e = ap (λ (r : Result Tally ℕ). onward v r ys) (sym e) ∙ (sym (search_append v xs ys i) ∙ L.same)
+  pub left_found : {zs : List ℕ} (xs ys : List ℕ) {p : ℕ} → Left v whole top i zs → zs ≡ xs ++ ys → Err p ≡ searched i xs v → Err p ≡ whole
+  left_found xs ys L z e = ap (λ (r : Result Tally ℕ). onward v r ys) e ∙ (sym (search_append v xs ys i) ∙ (left_as z L).same)
 
-  -- the front one, passed
-  pub one_on : {xs ys : List ℕ} {x : ℕ} {j : Tally} {r : Result Tally ℕ} → Left v whole top i xs → xs ≡ x ∷ ys → r ≡ passed i x v → r ≡ Ok j → Left v whole top j ys
-  one_on {x = x} L e p z = left_on (x ∷ []) (left_as e L) (sym (one_id i x v) ∙ (sym p ∙ z))
+  -- the front one
+  pub one_on : {xs ys : List ℕ} {x : ℕ} {j : Tally} → Left v whole top i xs → xs ≡ x ∷ ys → Ok j ≡ passed i x v → Left v whole top j ys
+  unfolding searched
+  one_on {x = x} L z e = left_on (x ∷ []) L z e
 
-  pub one_found : {xs ys : List ℕ} {x p : ℕ} {r : Result Tally ℕ} → Left v whole top i xs → xs ≡ x ∷ ys → r ≡ passed i x v → r ≡ Err p → Err p ≡ whole
-  one_found {ys = ys} {x = x} L e p z = left_found (x ∷ []) ys (left_as e L) (sym (one_id i x v) ∙ (sym p ∙ z))
+  pub one_found : {xs ys : List ℕ} {x p : ℕ} → Left v whole top i xs → xs ≡ x ∷ ys → Err p ≡ passed i x v → Err p ≡ whole
+  unfolding searched
+  one_found {ys = ys} {x = x} L z e = left_found (x ∷ []) ys L z e
 
   pub one_room : {xs ys : List ℕ} {x : ℕ} → Left v whole top i xs → xs ≡ x ∷ ys → i.count + 1 ≤ top
   one_room {ys = ys} {x = x} L e = let r = (left_as e L).room in omega arith
@@ -87,7 +86,7 @@ unfolding searched above
 all_passed [] i = ap (λ (n : ℕ). Ok (record { count = n; above = i.above })) (omega arith)
 all_passed (x ∷ xs) i = all_passed xs (with_one i x) ∙ ap (λ (n : ℕ). Ok (record { count = n; above = above xs (with_one i x).above })) (omega arith)
 
-pub all_counted : (xs : List ℕ) → searched none_yet xs none ≡ Ok (counted xs)
+pub all_counted : (xs : List ℕ) → searched none_yet xs none ≡ Ok (tally_of xs)
 all_counted xs = all_passed xs none_yet ∙ ap (λ (n : ℕ). Ok (record { count = n; above = above xs 0 })) (omega arith)
 
 -- THE POSITION of one
@@ -111,12 +110,9 @@ not_in v (x ∷ xs) i h =
     let k : suc (length xs) ≤ suc (index_of v xs) = rw (q, index_of) at h in
     rw (q, searched) (not_in v xs (with_one i x) (omega arith)))
 
-same_ok : {a b : Tally} → ◌≡◌ {A = Result Tally ℕ} (Ok a) (Ok b) → a ≡ b
-same_ok {a} {b} e = ap (λ (r : Result Tally ℕ). elim r [ Ok x ↦ x | Err p ↦ a ]) e
-
 -- the tally of a search for none
-pub tally_is : {r : Result Tally ℕ} {t : Tally} (xs : List ℕ) → r ≡ searched none_yet xs none → r ≡ Ok t → t ≡ counted xs
-tally_is xs e z = same_ok (sym z ∙ (e ∙ all_counted xs))
+pub tally_is : {r : Result Tally ℕ} {t : Tally} (xs : List ℕ) → r ≡ searched none_yet xs none → r ≡ Ok t → t ≡ tally_of xs
+tally_is xs e z = let a = all_counted xs in cc
 
 -- THE SLOT by what is read
 one_in : (n i : ℕ) → i < n → some i ≡ one_of n i

@@ -45,8 +45,8 @@ abbrev pub above_all : List ℕ → ℕ
 above_all ids = above ids 0
 
 -- how many they are, and a number above all of them
-abbrev pub counted : List ℕ → Tally
-counted ids = record { count = length ids; above = above_all ids }
+abbrev pub tally_of : List ℕ → Tally
+tally_of ids = record { count = length ids; above = above_all ids }
 
 -- A SEARCH for v passes one id after another, and stops at v with its position
 abbrev pub id_of : code.Option ValueId → Option ℕ

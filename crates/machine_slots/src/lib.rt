@@ -66,7 +66,7 @@ fn search(f: Function, v: Option<ValueId>) -> Result<Tally, usize>
 
 // The ids of a function: how many there are, and a number above all of them.
 #[derive(Clone, Copy, Debug)]
-pub struct Ids<'a> {
+pub struct ValueIds<'a> {
     pub function: Function<'a>,
     pub count: usize,
     pub above: usize,
@@ -74,14 +74,14 @@ pub struct Ids<'a> {
     pub ghost above_is: { above ≡ above_all (value_ids (ir_of function)) },
 }
 
-impl<'a> Ids<'a> {
+impl<'a> ValueIds<'a> {
     pub fn of(f: Function<'a>) -> Self
         ensures of_function { result.function ≡ f.entry }
         ensures count_value { result.count ≡ length (value_ids (ir_of f.entry)) }
         ensures above_value { result.above ≡ above_all (value_ids (ir_of f.entry)) }
     {
         let tally = search(f, None).unwrap();
-        Ids {
+        ValueIds {
             function: f,
             count: tally.count,
             above: tally.above,

@@ -1,5 +1,5 @@
 -- What a store changes of what a frame's cells hold. Assumes nothing.
-use mathlib.Core.Path.{◌≡◌, ap, sym, ◌∙◌}
+use mathlib.Core.Path.{◌≡◌, sym, ◌∙◌}
 use mathlib.Core.List.{List, ◌∷◌}
 use mathlib.Core.Logic.{◌⊎◌, inl, inr}
 use mathlib.Core.Option.{Option, none, some}
@@ -12,18 +12,21 @@ use Rattle.definitions.specs.Bench.{Notes, word_at, bytes_for}
 use Rattle.definitions.proofs.Results.{by_test}
 use Rattle.machine_memory.specs.Cells.{cell_width, cell, stored, emptied}
 use Rattle.machine_memory.proofs.Cells.{stored_same, stored_apart, emptied_same, emptied_apart, length_stored, length_emptied}
-use Rattle.machine_slots.specs.Slots.{Among, slot_for}
+use Rattle.machine_slots.specs.Slots.{Among, slot_for, one_of}
 use Rattle.machine_slots.proofs.Indices.{slot_low, slot_one, frame_bytes}
-use Rattle.machine_state.specs.Frames.{function_in, ids_in, value_cell, locals_base, local_cell, slot_word, InCells}
+use Rattle.machine_state.specs.Frames.{frame_function, frame_ids, value_cell, locals_base, local_cell, slot_place, held_at, InCells}
 use Rattle.machine_state.specs.declared.frame.Frame.{Frame}
 
--- SLOT WORDS
-pub within : (m : List ℕ) (base n i : ℕ) → i < n → slot_word m base n i ≡ cell m (base + cell_width * i)
-unfolding slot_word
+-- SLOT WORDS: what the cell of slot i of n holds
+abbrev slot_word : List ℕ → (base n i : ℕ) → Option ℕ
+slot_word m base n i = held_at m (slot_place base (one_of n i))
+
+within : (m : List ℕ) (base n i : ℕ) → i < n → slot_word m base n i ≡ cell m (base + cell_width * i)
+unfolding slot_place held_at
 within m base n i h = rw (lt-ltb i n h)
 
-pub beyond : (m : List ℕ) (base n i : ℕ) → n ≤ i → slot_word m base n i ≡ none
-unfolding slot_word
+beyond : (m : List ℕ) (base n i : ℕ) → n ≤ i → slot_word m base n i ≡ none
+unfolding slot_place held_at
 beyond m base n i h = rw (le-ltb i n h)
 
 -- the cells of n slots are the same in two memories
@@ -58,46 +61,40 @@ other_slot {m} {after} base n i j c h =
     within after base n j k ∙ (c.apart (base + cell_width * j) d ∙ sym (within m base n j k)))
     (λ q. let k : n ≤ j = ltb-false j n q in beyond after base n j k ∙ sym (beyond m base n j k))
 
+-- THE NOTES of n slots, whose cells hold their words
+module _ (m after : List ℕ) (base n : ℕ) (slot : ℕ → ℕ) (notes : Notes ℕ) (H : (v : ℕ) → word_at v notes ≡ slot_word m base n (slot v)) where
+  -- one took a word, or became unset
+  noted : {w : Option ℕ} (v : ℕ) → slot v < n → ((u : ℕ) → slot v ≡ slot u → v ≡ u) → Changed m after (base + cell_width * slot v) w → (u : ℕ) → word_at u ((v, w) ∷ notes) ≡ slot_word after base n (slot u)
+  noted v low one c u =
+      by_test (eqb v u)
+      (λ q. rw (q, word_at, ← eqb-true v u q) (sym (within after base n (slot v) low ∙ c.same)))
+      (λ q. rw (q, word_at) (H u ∙ sym (other_slot base n (slot v) (slot u) c (λ e. eqb-false v u q (one u e)))))
+
+  -- their cells are as before
+  as_before : SameCells after m base n → (u : ℕ) → word_at u notes ≡ slot_word after base n (slot u)
+  as_before h u = H u ∙ sym (same_word after m base n (slot u) h)
+
 -- A FRAME after one of its values, or locals, took a word or became unset
-module _ {m after : List ℕ} {t : Frame} {values locals : Notes ℕ} {w : Option ℕ} (H : InCells m t values locals) where
-  pub value_changed : (v : ℕ) → Among v (ids_in t) → Changed m after (value_cell t v) w → InCells after t ((v, w) ∷ values) locals
+module _ {m after : List ℕ} {t : Frame} {values locals : Notes ℕ} (H : InCells m t values locals) where
+  pub value_changed : {w : Option ℕ} (v : ℕ) → Among v (frame_ids t) → Changed m after (value_cell t v) w → InCells after t ((v, w) ∷ values) locals
   value_changed v h c =
-      let n : ℕ = length (ids_in t) in
-      let lo : slot_for (ids_in t) v < n = slot_low (ids_in t) v h in
+      let low : slot_for (frame_ids t) v < length (frame_ids t) = slot_low (frame_ids t) v h in
       record {
-        value = λ u.
-            by_test (eqb v u)
-            (λ q.
-            rw (q, word_at) (sym
-            (ap (λ (x : ℕ). slot_word after t.base n (slot_for (ids_in t) x)) (sym (eqb-true v u q)) ∙ (within after t.base n (slot_for (ids_in t) v) lo ∙ c.same))))
-            (λ q.
-            rw (q, word_at) (H.value u ∙ sym
-            (other_slot t.base n (slot_for (ids_in t) v) (slot_for (ids_in t) u) c (λ e. eqb-false v u q (slot_one (ids_in t) v u lo e)))));
-        local = λ l.
-            H.local l ∙ sym (same_word after m (locals_base t) (length (function_in t).locals) l (λ i k. c.apart (locals_base t + cell_width * i) (inr (omega arith))));
+        value = noted m after t.base (length (frame_ids t)) (slot_for (frame_ids t)) values H.value v low (λ u e. slot_one (frame_ids t) v u low e) c;
+        local = as_before m after (locals_base t) (length (frame_function t).locals) (λ l. l) locals H.local (λ i k. c.apart (locals_base t + cell_width * i) (inr (omega arith)));
       }
 
-  pub local_changed : (l : ℕ) → l < length (function_in t).locals → Changed m after (local_cell t l) w → InCells after t values ((l, w) ∷ locals)
-  local_changed l h c =
-      let k : ℕ = length (function_in t).locals in
-      record {
-        value = λ v. H.value v ∙ sym (same_word after m t.base (length (ids_in t)) (slot_for (ids_in t) v) (λ i z. c.apart (t.base + cell_width * i) (inl (omega arith))));
-        local = λ j.
-            by_test (eqb l j)
-            (λ q.
-            rw (q, word_at) (sym
-            (ap (slot_word after (locals_base t) k) (sym (eqb-true l j q)) ∙ (within after (locals_base t) k l h ∙ c.same))))
-            (λ q. rw (q, word_at) (H.local j ∙ sym (other_slot (locals_base t) k l j c (eqb-false l j q))));
-      }
+  pub local_changed : {w : Option ℕ} (l : ℕ) → l < length (frame_function t).locals → Changed m after (local_cell t l) w → InCells after t values ((l, w) ∷ locals)
+  local_changed l h c = record {
+    value = as_before m after t.base (length (frame_ids t)) (slot_for (frame_ids t)) values H.value (λ i z. c.apart (t.base + cell_width * i) (inl (omega arith)));
+    local = noted m after (locals_base t) (length (frame_function t).locals) (λ l. l) locals H.local l h (λ u e. e) c;
+  }
 
--- A FRAME that a store does not touch
-pub not_touched : {m after : List ℕ} {t : Frame} {values locals : Notes ℕ} → InCells m t values locals
-    → ((r : ℕ) → t.base ≤ r → r + cell_width ≤ t.base + bytes_for (function_in t) → cell after r ≡ cell m r) → InCells after t values locals
-not_touched {m} {after} {t} H h =
-    let n : ℕ = length (ids_in t) in
-    let e : bytes_for (function_in t) ≡ 9 * (n + length (function_in t).locals) = frame_bytes (function_in t) in
-    record {
-      value = λ v. H.value v ∙ sym (same_word after m t.base n (slot_for (ids_in t) v) (λ i k. h (t.base + cell_width * i) (omega arith) (omega arith)));
-      local = λ l.
-          H.local l ∙ sym (same_word after m (locals_base t) (length (function_in t).locals) l (λ i k. h (locals_base t + cell_width * i) (omega arith) (omega arith)));
-    }
+  -- a store that does not touch it
+  pub not_touched : ((r : ℕ) → t.base ≤ r → r + cell_width ≤ t.base + bytes_for (frame_function t) → cell after r ≡ cell m r) → InCells after t values locals
+  not_touched h =
+      let e : bytes_for (frame_function t) ≡ 9 * (length (frame_ids t) + length (frame_function t).locals) = frame_bytes (frame_function t) in
+      record {
+        value = as_before m after t.base (length (frame_ids t)) (slot_for (frame_ids t)) values H.value (λ i k. h (t.base + cell_width * i) (omega arith) (omega arith));
+        local = as_before m after (locals_base t) (length (frame_function t).locals) (λ l. l) locals H.local (λ i k. h (locals_base t + cell_width * i) (omega arith) (omega arith));
+      }

@@ -11,7 +11,7 @@ use Rattle.program_nodes.specs.Nodes.{instrs_in, terminator_in}
 use Rattle.program_nodes.specs.declared.block.Records.{Records}
 use Rattle.machine_slots.specs.Slots.{block_results, Among}
 use Rattle.machine_state.specs.Owned.{write_below}
-use Rattle.machine_state.specs.Frames.{function_in, ids_in, word_of, Fits, InCells}
+use Rattle.machine_state.specs.Frames.{frame_function, frame_ids, word_of, Fits, InCells}
 use Rattle.machine_state.specs.declared.frame.Frame.{Frame}
 use Rattle.machine_state.specs.declared.under_way.UnderWay.{UnderWay}
 use Rattle.machine_state.specs.declared.halt.Halt.{Halt}
@@ -26,8 +26,8 @@ pub record BlockLeft (t : Frame) (r : Records) (b : BasicBlock) : Type 0 where
   pub instrs : b.instrs ≡ instrs_in r
   pub terminator : b.terminator ≡ terminator_in r
   pub sheet : r.sheet.now ≡ frame_sheet t
-  pub among : (v : ℕ) → Among v (block_results (instrs_in r)) → Among v (ids_in t)
-  pub own : write_below (length (function_in t).locals) (instrs_in r) ≡ true
+  pub among : (v : ℕ) → Among v (block_results (instrs_in r)) → Among v (frame_ids t)
+  pub own : write_below (length (frame_function t).locals) (instrs_in r) ≡ true
 
 -- .. or that it has no block to start in
 abbrev pub BlockIs : Frame → Option Records → maths.Option BasicBlock → Type 0
@@ -39,7 +39,7 @@ BlockIs t (Some r) (maths.some b) = BlockLeft t r b
 -- a function under way, its words in memory
 pub record StandsFor (memory : List ℕ) (t : Frame) (block : Option Records) (f : Open ℕ) : Type 0 where
   pub fits : Fits (length memory) t
-  pub function_is : f.function ≡ function_in t
+  pub function_is : f.function ≡ frame_function t
   pub held : InCells memory t f.values f.locals
   pub block_is : BlockIs t block f.block
 
@@ -62,10 +62,10 @@ pub record Waits (sheet memory frames : List ℕ) (p base : ℕ) (w : Waiting �
   pub id : ℕ
   pub numbers : (i : ℕ) → i < 8 → get_or frames (p + i) 0 ≡ get_or (waiting_numbers frame block id) i 0
   pub caller : StandsFor memory frame block w.caller
-  pub below : frame.base + bytes_for (function_in frame) ≡ base
+  pub below : frame.base + bytes_for (frame_function frame) ≡ base
   pub result_is : w.result ≡ opt_from id
   pub small : id < 65536
-  pub among : (v : ℕ) → w.result ≡ maths.some v → Among v (ids_in frame)
+  pub among : (v : ℕ) → w.result ≡ maths.some v → Among v (frame_ids frame)
 
 -- those that wait, the nearest first, functions of one sheet; their frames of memory stand one behind the other, up to `base`
 pub data Callers (sheet memory frames : List ℕ) : ℕ → ℕ → List (Waiting ℕ) → Type 0 where
@@ -93,41 +93,45 @@ halt_of halts.NoStartBlock = outcome no_start_block
 halt_of halts.Unset = outcome unset
 halt_of halts.TooLittleMemory = too_little_memory
 
+-- a step's answer: it went, or why the run stops
+abbrev pub Stepped : Type 0
+Stepped = Result (Unit {0}) Halt
+
 -- what the code's step gives is what the machine's gives
-abbrev pub Gone : (memory frames state outside : List ℕ) → UnderWay → Result (Unit {0}) Halt → defs.Result (Stop ℕ) (Machine ℕ) → Type 0
+abbrev pub Gone : (memory frames state outside : List ℕ) → UnderWay → Stepped → defs.Result (Stop ℕ) (Machine ℕ) → Type 0
 Gone memory frames state outside t (Ok x) (defs.ok m) = Running memory frames state outside t m
 Gone memory frames state outside t (Ok x) (defs.err e) = ⊥
 Gone memory frames state outside t (Err h) (defs.ok m) = ⊥
 Gone memory frames state outside t (Err h) (defs.err e) = halt_of h ≡ e
 
 -- A CHANGE OF PLACE, for every machine that the code stands for: memory stays; where the run stops, the place stays too
-pub record Goes (t after : UnderWay) (r : Result (Unit {0}) Halt) (next : Machine ℕ → defs.Result (Stop ℕ) (Machine ℕ)) : Type 0 where
+pub record Goes (t after : UnderWay) (r : Stepped) (next : Machine ℕ → defs.Result (Stop ℕ) (Machine ℕ)) : Type 0 where
   pub run : (memory frames state outside : List ℕ) (m : Machine ℕ) → Running memory frames state outside t m → Gone memory frames state outside after r (next m)
   pub kept : (h : Halt) → r ≡ Err h → after ≡ t
 
 -- a terminator, over this memory
-pub record Ends (memory : List ℕ) (t after : UnderWay) (i : Terminator) (r : Result (Unit {0}) Halt) : Type 0 where
+pub record Ends (memory : List ℕ) (t after : UnderWay) (i : Terminator) (r : Stepped) : Type 0 where
   pub run : (frames state outside : List ℕ) (m : Machine ℕ) → Running memory frames state outside t m → Gone memory frames state outside after r (step_terminator plain_words m i)
   pub kept : (h : Halt) → r ≡ Err h → after ≡ t
 
--- AN INSTRUCTION, behind which the block has been moved: it leaves the place. The code's answer is the machine's, whatever waits, whatever the state words,
--- the outside results and what is lent; where the run stops, memory is as before
+-- AN INSTRUCTION, behind which the block has been moved: it leaves the place. The code's answer is the machine's, whatever waits and whatever is lent. There are
+-- `state` and `outside` before it, `words` and `rest` behind it; where the run stops, all is as before
 abbrev pub at : Frame → Option Records → ℕ → UnderWay
 at t block depth = record { frame = t; block = block; depth = depth }
 
-pub record Does (t : Frame) (before after : List ℕ) (o : maths.Option ℕ) (i : Instruction) (r : Result (Unit {0}) Halt) : Type 0 where
-  pub run : (lent : Lent) (frames state outside : List ℕ) (block : Option Records) (depth : ℕ) (m : Machine ℕ) → Running before frames state outside (at t block depth) m
-      → Gone after frames state outside (at t block depth) r (step_instr plain_words lent m o i)
-  pub kept : (h : Halt) → r ≡ Err h → after ≡ before
+pub record Changes (t : Frame) (before after state words outside rest : List ℕ) (o : maths.Option ℕ) (i : Instruction) (r : Stepped) : Type 0 where
+  pub run : (lent : Lent) (frames : List ℕ) (block : Option Records) (depth : ℕ) (m : Machine ℕ) → Running before frames state outside (at t block depth) m
+      → Gone after frames words rest (at t block depth) r (step_instr plain_words lent m o i)
+  pub kept : (h : Halt) → r ≡ Err h → (after ≡ before) × (words ≡ state) × (rest ≡ outside)
 
--- the same with these state words before and after
-pub record DoesState (t : Frame) (before after state words : List ℕ) (o : maths.Option ℕ) (i : Instruction) (r : Result (Unit {0}) Halt) : Type 0 where
-  pub run : (lent : Lent) (frames outside : List ℕ) (block : Option Records) (depth : ℕ) (m : Machine ℕ) → Running before frames state outside (at t block depth) m
-      → Gone after frames words outside (at t block depth) r (step_instr plain_words lent m o i)
-  pub kept : (h : Halt) → r ≡ Err h → (after ≡ before) × (words ≡ state)
+-- one that changes no more than memory
+abbrev pub Does : Frame → (before after : List ℕ) → maths.Option ℕ → Instruction → Stepped → Type 0
+Does t before after o i r = (state outside : List ℕ) → Changes t before after state state outside outside o i r
 
--- the same with these outside results before and after
-pub record DoesOutside (t : Frame) (before after outside rest : List ℕ) (o : maths.Option ℕ) (i : Instruction) (r : Result (Unit {0}) Halt) : Type 0 where
-  pub run : (lent : Lent) (frames state : List ℕ) (block : Option Records) (depth : ℕ) (m : Machine ℕ) → Running before frames state outside (at t block depth) m
-      → Gone after frames state rest (at t block depth) r (step_instr plain_words lent m o i)
-  pub kept : (h : Halt) → r ≡ Err h → (after ≡ before) × (rest ≡ outside)
+-- one that changes state words too
+abbrev pub DoesState : Frame → (before after state words : List ℕ) → maths.Option ℕ → Instruction → Stepped → Type 0
+DoesState t before after state words o i r = (outside : List ℕ) → Changes t before after state words outside outside o i r
+
+-- one that uses outside results
+abbrev pub DoesOutside : Frame → (before after outside rest : List ℕ) → maths.Option ℕ → Instruction → Stepped → Type 0
+DoesOutside t before after outside rest o i r = (state : List ℕ) → Changes t before after state state outside rest o i r

@@ -1,3 +1,2 @@
-pub mod Doing
 pub mod Operands
 pub mod Moving

@@ -5,10 +5,11 @@ ghost use Rattle.std.specs.Prelude.{ℕ, List, ◌<◌, length};
 ghost use Rattle.std.proofs.Math.Option as maths;
 ghost use Rattle.definitions.specs.Ir.{IrType, Instruction, Terminator};
 ghost use Rattle.definitions.specs.ContractSheet.{op_of};
-ghost use Rattle.format.specs.Operators.{op_number};
+ghost use Rattle.format.specs.Operators.{operator_number};
 ghost use Rattle.program_nodes.specs.Nodes.{ids_in};
 ghost use Rattle.machine_state.specs.declared.under_way.UnderWay.{UnderWay};
-ghost use Rattle.machine_state.specs.Frames.{function_in, id_of, Fits, Given};
+ghost use Rattle.machine_slots.specs.Slots.{id_of};
+ghost use Rattle.machine_state.specs.Frames.{frame_function, Fits, Given};
 ghost use Rattle.machine_state.specs.Running.{Does, Ends};
 ghost use Rattle.machine_steps.specs.Steps.{went, halted, AllAsked};
 
@@ -35,7 +36,7 @@ pub fn step_binary(
     right: ValueId,
 ) -> Result<(), Halt>
     requires { Given (length memory.old) frame.now (id_of to) }
-    ensures { (t : IrType) → Does frame.now memory.old memory.new (id_of to) (Instruction.Binary (op_of (op_number op)) t left.0 right.0) result }
+    ensures { (t : IrType) → Does frame.now memory.old memory.new (id_of to) (Instruction.Binary (op_of (operator_number op)) t left.0 right.0) result }
 {
     let a = frame.value(memory, left).ok_or(Halt::Unset)?;
     let b = frame.value(memory, right).ok_or(Halt::Unset)?;
@@ -67,7 +68,7 @@ pub fn step_write_local(
     value: ValueId,
 ) -> Result<(), Halt>
     requires fits { Fits (length memory.old) frame.now }
-    requires own { local.0 < length (function_in frame.now).locals }
+    requires own { local.0 < length (frame_function frame.now).locals }
     ensures { (o : maths.Option ℕ) → Does frame.now memory.old memory.new o (Instruction.WriteLocal local.0 value.0) result }
 {
     let word = frame.value(memory, value).ok_or(Halt::Unset)?;

@@ -8,7 +8,7 @@ length-padded zero l = refl
 length-padded (suc n) [] = ap suc (length-padded n [])
 length-padded (suc n) (x ∷ l) = ap suc (length-padded n l)
 
-pub length_of : (count : ℕ) (list : List ℕ) → (count ≤ 6) × (list ≡ padded 6 (take count list)) → length (take count list) ≡ count
-length_of count list h =
+pub restored_length : (count : ℕ) (list : List ℕ) → (count ≤ 6) × (list ≡ padded 6 (take count list)) → length (take count list) ≡ count
+restored_length count list h =
     let long : length list ≡ length (padded 6 (take count list)) = ap length h.1 in
     omega (arith, long, length-padded 6 (take count list), length-take count list)

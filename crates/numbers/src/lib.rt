@@ -34,9 +34,9 @@ impl Model for Numbers {
     ghost inverse = { λ l. record { count = length l; list = padded 6 l } };
 
     ghost use Rattle.std.proofs.Common.{sym};
-    ghost use Rattle.numbers.specs.Restored.{length_of};
+    ghost use Rattle.numbers.specs.Restored.{restored_length};
 
-    ghost inverse_ok = { λ a h i. record { count = length_of a.count a.list h i; list = sym h.1 i } };
+    ghost inverse_ok = { λ a h i. record { count = restored_length a.count a.list h i; list = sym h.1 i } };
 }
 
 impl Numbers {

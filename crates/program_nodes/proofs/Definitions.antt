@@ -37,7 +37,7 @@ first_append v (e ∷ a) b = go (eqb e.value v) (first_append v a b)
 -- a found definition is one of them
 pub first_has : {P : Definition → Type 0} (v : ℕ) {es : List Definition} → All P es → (e : Definition) → first_definition v es ≡ some e → P e × (e.value ≡ v)
 unfolding first_definition
-first_has v anil e q = absurd (let z : ◌≡◌ {A = ℕ} 0 1 = cc in omega arith)
+first_has v anil e q = cc
 first_has {P} v (acons {a = x} {l = l} p h) e q = go (eqb x.value v) refl (first_has v h e)
   where
     go : (t : Bool) → eqb x.value v ≡ t → (first_definition v l ≡ some e → P e × (e.value ≡ v)) → P e × (e.value ≡ v)

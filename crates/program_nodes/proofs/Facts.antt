@@ -12,25 +12,26 @@ use Rattle.std.specs.Prelude.{Result, Ok, Err, IsErrAnd}
 use Rattle.definitions.specs.Fields.{le}
 use Rattle.definitions.specs.Records.{Bad, opt_from}
 use Rattle.sheet.specs.declared.errors.Malformed.{Malformed}
-use Rattle.format.specs.Kinds.{instr_number, term_number}
+use Rattle.format.specs.Kinds.{instr_number}
 use Rattle.format.specs.declared.kinds.Instruction.{Instruction as InstrKind}
 use Rattle.format.specs.declared.kinds.Instruction.TheVariants as instr
-use Rattle.format.specs.declared.kinds.Terminator.{Terminator as TermKind}
-use Rattle.program_nodes.specs.Offsets.{own_at}
+use Rattle.program_nodes.specs.Offsets.{records_at, own_at}
 use Rattle.definitions.specs.Ir.{IrType, result_type, unless_void}
 use Rattle.definitions.specs.InstrTable.{ResultRule, kind_row}
 use Rattle.ir.specs.Kinds.{rule_in}
 use Rattle.ir.specs.Types.{as_type}
 use Rattle.ir.specs.declared.IrType.{IrType as CodeType}
 use Rattle.ir.specs.declared.IrType.TheVariants as code
-use Rattle.program_nodes.specs.Nodes.{form_of, instr_in, result_is}
+use Rattle.sheet.specs.Forms.{form_of}
+use Rattle.program_nodes.specs.Nodes.{instr_in, result_is}
 use Rattle.program_nodes.proofs.InstrRows.{own_typed, type_fits}
-use Rattle.program_nodes.specs.Positions.{kind_here, type_here, has_type, type_offset, own_rule, by_rule, size_here, term_size, InstrTo, TermPlace, FunctionHere}
+use Rattle.program_nodes.specs.Positions.{kind_here, type_here, has_type, type_offset, own_rule, by_rule, term_size, InstrTo, BlockFrom, FunctionHere}
 use Rattle.program_nodes.specs.declared.program.Program.{Program}
 use Rattle.program_nodes.specs.declared.program.Function.{Function}
+use Rattle.program_nodes.specs.declared.block.Block.{Block}
 use Rattle.program_nodes.specs.declared.instr.Instr.{Instr}
 use Rattle.program_nodes.specs.declared.term.Term.{Term}
-use Rattle.program_nodes.proofs.Stand.{kept}
+use Rattle.sheet.proofs.Standing.{kept}
 use Rattle.program_nodes.proofs.Walk.{instr_alone, term_alone}
 use Rattle.program_nodes.proofs.FunctionSteps.{ProgramAt, program_at, function_here_is}
 
@@ -38,20 +39,17 @@ pub program_is : (p : Program) → ProgramAt p.sheet.now
 program_is p = program_at p.sheet.now p.passed
 
 pub function_is : (f : Function) → FunctionHere f.program.sheet.now f.at f.first f.stop f.name.0
-function_is f = function_here_is (program_is f.program).records f.here
+function_is f = function_here_is f.here
+
+-- the records of a block, as they passed
+pub block_records : (b : Block) → BlockFrom b.sheet.now (b.at + records_at) b.stop
+block_records b = kept b.here.0.0
 
 pub instr_to : (i : Instr) → InstrTo i.sheet.now i.at i.stop (kind_here i.sheet.now i.at)
-instr_to i = instr_alone (kept i.here.0) i.here.1 refl
+instr_to i = instr_alone (kept i.here.0) i.here.1
 
-pub term_place : (t : Term) → TermPlace t.sheet.now t.at (kind_here t.sheet.now t.at)
-term_place t = term_alone (kept t.here.0) t.here.1 refl
-
--- how far the fixed fields of an instruction and of a terminator reach, by the kind that was read and that a match told
-pub instr_fits : (i : Instr) {r k : InstrKind} → instr_number r ≡ kind_here i.sheet.now i.at → r ≡ k → (i.at + size_here (instr_number k) ≤ i.stop) × (i.stop ≤ length i.sheet.now)
-instr_fits i h e = let I = instr_to i in rw (← e, h) (I.room, I.inside)
-
-pub term_fits : (t : Term) {r k : TermKind} → term_number r ≡ kind_here t.sheet.now t.at → r ≡ k → t.at + term_size (term_number k) ≤ length t.sheet.now
-term_fits t h e = rw (← e, h) (term_place t).fits
+pub term_fits : (t : Term) → t.at + term_size (kind_here t.sheet.now t.at) ≤ length t.sheet.now
+term_fits t = term_alone (kept t.here.0) t.here.1
 
 pub instr_result_fits : (i : Instr) → i.at + own_at ≤ i.stop
 instr_result_fits i = omega (arith, (instr_to i).room)
@@ -92,5 +90,6 @@ unless code.Void n = absurd (n refl)
 
 -- a fault that is handed on
 pub fault_of : (r : Result Program Malformed) {x : Malformed} → IsErrAnd r (λ e. e ≡ x) → form_of r ≡ Bad x.0
+unfolding form_of
 fault_of (Err e) h = ap (λ (m : Malformed). Bad m.0) h
 fault_of (Ok p) h = absurd h

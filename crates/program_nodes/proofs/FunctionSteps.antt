@@ -1,15 +1,14 @@
 -- The walk over the functions of a program sheet that passed; the sheet as a whole. Assumes nothing.
 use mathlib.Core.Path.{◌≡◌, refl, ap, ◌∙◌, subst}
-use mathlib.Core.Bool.{true}
 use mathlib.Core.List.{List, [], ◌∷◌}
-use Prim.Native.Nat.{ℕ, zero, suc, ◌+◌, ◌*◌, ◌≤◌, ◌<◌}
+use Prim.Native.Nat.{ℕ, ◌+◌, ◌*◌, ◌≤◌, ◌<◌}
 use native.Mathlib.Omega.{arith}
 use lib.Dec.{eqb}
 use lib.ListN.{length}
 use Rattle.definitions.specs.Fields.{le}
 use Rattle.definitions.specs.Ir.{IrFunction}
 use Rattle.definitions.specs.Grammar.{Class, class_no, Entry, up_to, ir_type, value_and_type, Field, counted, Pattern, done, many, rows}
-use Rattle.definitions.specs.Records.{left, after, FieldValue, ok_type, ok_item, ok_items, read_item, read_items, read_value, size_of, field_end, fields_end, read_values, node, Trees, read_records, gather, Good, check_records}
+use Rattle.definitions.specs.Records.{left, after, FieldValue, ok_item, read_item, read_value, size_of, field_end, fields_end, read_values, node, Trees, read_records, gather, Good, check_records}
 use Rattle.definitions.specs.ProgramSheet.{block_of, ir_function_of, program_of, read_program, refusal40}
 use Rattle.definitions.proofs.Results.{by_test}
 use Rattle.definitions.specs.Fine.{Head, Fine, ends, goes}
@@ -18,15 +17,9 @@ use Rattle.definitions.proofs.Sheets.Lines.{OfRows, Given, by_lines, same_class,
 use Rattle.definitions.proofs.Sheets.Singles.{items_from, after as afterAll, Valid, Starts, starts, Counted, counted_field}
 use Rattle.definitions.proofs.Sheets.Steps.{Step, here, past, many_step, One, this, one_step, done_ends, low}
 use Rattle.program_nodes.specs.Offsets.{head_width, function_id_at, function_name_at, return_type_at, param_count_at, first_param_at}
-use Rattle.program_nodes.specs.Positions.{type_here, kind_here, stop_here, BlocksFrom, blocks_here, params_here, locals_at, first_block, types_here, functions_here, function_here, functions_of, FunctionsFrom, ProgramHere, FunctionStarts, FunctionHere}
+use Rattle.program_nodes.specs.Positions.{type_here, kind_here, stop_here, BlocksFrom, blocks_here, params_here, locals_at, first_block, types_here, functions_here, function_here, FunctionsFrom, ProgramHere, FunctionHere}
 use Rattle.program_nodes.specs.Standing.{FunctionStands}
-use Rattle.program_nodes.proofs.Stand.{kept}
-
--- there are as many types of locals as the count says
-pub types_count : (n : ℕ) (s : List ℕ) (p : ℕ) → length (types_here n s p) ≡ n
-unfolding types_here read_items
-types_count zero s p = refl
-types_count (suc n) s p = ap suc (types_count n s (p + size_of ir_type))
+use Rattle.sheet.proofs.Standing.{kept}
 
 -- A FUNCTION'S RECORD
 pub record FunctionStep (s : List ℕ) (at end stop : ℕ) : Type 0 where
@@ -34,8 +27,6 @@ pub record FunctionStep (s : List ℕ) (at end stop : ℕ) : Type 0 where
   pub low : at + (first_param_at + 2) ≤ first_block s at
   pub kind : kind_here s at ≡ 51
   pub blocks : BlocksFrom s (first_block s at) stop
-  pub params : ok_items value_and_type (le 2 s (at + param_count_at)) s (at + first_param_at) ≡ true
-  pub returns : ok_type (le 2 s (at + return_type_at)) (le 2 s (at + return_type_at + 2)) ≡ true
   pub next : Fine s stop end (many Class.ir_function (many Class.function_name done))
   pub read : functions_here s at end ≡ function_here s at (first_block s at) stop ∷ functions_here s stop end
 
@@ -44,8 +35,6 @@ module _ (s : List ℕ) (at end b stop : ℕ) where
     kind : k ≡ 51
     body : b ≡ first_block s at
     low : at + (first_param_at + 2) ≤ b
-    params : ok_items value_and_type (le 2 s (at + param_count_at)) s (at + first_param_at) ≡ true
-    returns : ok_type (le 2 s (at + return_type_at)) (le 2 s (at + return_type_at + 2)) ≡ true
     is : (ts : Trees) → ir_function_of (node at k vs ts) ≡ record {
       id = le 2 s (at + function_id_at);
       name = le 2 s (at + function_name_at);
@@ -75,8 +64,6 @@ module _ (s : List ℕ) (at end b stop : ℕ) where
           kind = refl;
           body = body;
           low = omega (arith, body);
-          params = rw e at C.valid;
-          returns = S.valid.1.1.0;
           is = λ ts. ap (λ (x : List FieldValue). ir_function_of (node at 51 x ts)) S.values ∙ rw (f, e) refl;
         },
       ))
@@ -128,8 +115,6 @@ function_step {s} {at} {end} (here {fs = fs} {q = q} {b = b} {stop = stop} hd ki
       low = omega (arith, R.low, R.body);
       kind = R.kind;
       blocks = f;
-      params = R.params;
-      returns = R.returns;
       next = more;
       read =
           ap (gather 51 51 ir_function_of) (read_step hd kids more) ∙ rw R.kind
@@ -144,36 +129,26 @@ pub head_there : {s : List ℕ} {at end : ℕ} {p : Pattern} → Fine s at end p
 head_there (ends z m) l = absurd (omega arith)
 head_there (goes hd a kids rest) l = omega (arith, hd.low, hd.mid, hd.high)
 
-pub function_here_lem : {s : List ℕ} {at : ℕ} → FunctionStarts s at → FunctionStep s at (length s) (stop_here s at)
-function_here_lem h = elim (at_functions h.from) [ no_function_lem e n ↦ absurd (omega (arith, n h.there, h.kind)) | at_function F ↦ F ]
+pub function_here_lem : {s : List ℕ} {at : ℕ} → FunctionsFrom s at → at < length s → kind_here s at ≡ 51 → FunctionStep s at (length s) (stop_here s at)
+function_here_lem f l k = elim (at_functions f) [ no_function_lem e n ↦ absurd (omega (arith, n l, k)) | at_function F ↦ F ]
 
 pub no_functions : {s : List ℕ} {at : ℕ} → FunctionsFrom s at → (at < length s → kind_here s at ≡ 51 → ⊥) → functions_here s at (length s) ≡ []
 no_functions f n = elim (at_functions f) [ no_function_lem e m ↦ e | at_function F ↦ absurd (n (omega (arith, F.low, F.high, low F.blocks)) F.kind) ]
 
--- where the fields of a function end, and the function by the numbers that were read
-pub function_fits : {s : List ℕ} {at : ℕ} → FunctionStarts s at → (first_block s at ≤ stop_here s at) × (stop_here s at ≤ length s)
-function_fits h = let F = function_here_lem h in (low F.blocks, F.high)
-
-pub first_is : {l : ℕ} (s : List ℕ) (at n : ℕ) → l ≡ locals_at s at → n ≡ le 2 s l → l + 2 + 4 * n ≡ first_block s at
-first_is {l} s at n e f = ap (λ (x : ℕ). l + 2 + 4 * x) f ∙ ap (λ (x : ℕ). x + 2 + 4 * le 2 s x) e
+-- where the fields of a function end
+pub function_fits : {s : List ℕ} {at : ℕ} → FunctionsFrom s at → at < length s → kind_here s at ≡ 51 → (first_block s at ≤ stop_here s at) × (stop_here s at ≤ length s)
+function_fits f l k = let F = function_here_lem f l k in (low F.blocks, F.high)
 
 -- a function by what its node keeps
-pub function_starts : {s : List ℕ} {at first stop name : ℕ} → ProgramHere s → FunctionStands s at first stop name → FunctionStarts s at
-function_starts p h = record { program = p; from = kept h.0; there = h.1; kind = h.2 }
-
-pub function_here_is : {s : List ℕ} {at first stop name : ℕ} → ProgramHere s → FunctionStands s at first stop name → FunctionHere s at first stop name
-function_here_is p h =
-    let F = function_here_lem (function_starts p h) in
-    let l = low F.blocks in
+pub function_here_is : {s : List ℕ} {at first stop name : ℕ} → FunctionStands s at first stop name → FunctionHere s at first stop name
+function_here_is h =
+    let F = function_here_lem (kept h.0) h.1 h.2 in
     record {
-      program = p;
       name_is = h.5;
       first_is = h.3;
-      low = rw (h.3, h.4) l;
+      low = rw (h.3, h.4) (low F.blocks);
       inside = rw h.4 F.high;
       blocks = rw (h.3, h.4) F.blocks;
-      params = F.params;
-      returns = record { fits = omega (arith, F.low, F.high, l); fine = F.returns };
       next = rw h.4 F.next;
       read = rw (h.3, h.4) F.read;
     }
@@ -188,7 +163,7 @@ program_row = by_lines G Class.program rows (refl, refl)
 
 pub record ProgramAt (s : List ℕ) : Type 0 where
   pub records : ProgramHere s
-  pub functions : (read_program s).functions ≡ functions_of s
+  pub functions : (read_program s).functions ≡ functions_here s 6 (length s)
 
 pub program_at : (s : List ℕ) → refusal40 s ≡ Good → ProgramAt s
 unfolding refusal40 check_records read_program fields_end functions_here

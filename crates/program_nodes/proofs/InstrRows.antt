@@ -1,17 +1,14 @@
 -- The records of a program sheet that passed, by position. Assumes nothing.
 use mathlib.Core.Path.{◌≡◌, refl, ap, ◌∙◌}
-use mathlib.Core.Bool.{Bool, true, false}
+use mathlib.Core.Bool.{Bool, true}
 use mathlib.Core.List.{List, [], ◌∷◌, ◌++◌, map}
 use Prim.Native.Nat.{ℕ, ◌+◌, ◌≤◌}
-use native.Mathlib.Omega.{arith}
 use lib.Dec.{leb, eqb, lit≤}
-use lib.ListN.{length}
 use borrow.Author.Tests.{leb-true}
 use Rattle.definitions.specs.Fields.{le}
 use Rattle.definitions.specs.Ir.{result_type}
 use Rattle.definitions.specs.InstrTable.{kind_row, kind_of}
 use Rattle.format.specs.Kinds.{instr_number}
-use Rattle.format.specs.declared.kinds.Instruction.{Instruction}
 use Rattle.format.specs.declared.kinds.Instruction.TheVariants as instr
 use Rattle.ir.specs.Kinds.{rule_in}
 use Rattle.definitions.specs.Grammar.{Class, Entry, up_to, optional, number, ir_type, Field, single, listed, Pattern, done, origin, rows}
@@ -52,19 +49,8 @@ module _ (k : ℕ) (t : rule_test k ≡ true) where
   unfolding rule_test typed_part wide_part
   type_fits e = leb-true _ _ (rw e at (both_true typed_part wide_part t).1)
 
-pub placed : {s : List ℕ} {q stop k : ℕ} {vs : List FieldValue} → InstrAt s q stop k vs → stop ≤ length s → InstrPlace s q k
-placed {k = k} i l = record {
-  low = i.low;
-  high = i.high;
-  fits = omega (arith, i.fits);
-  rules = i.rules;
-  kind_is = i.kind_is;
-  gives = i.gives;
-  context = i.context;
-}
-
-no_context : {A : Type 0} → false ≡ true → A
-no_context e = absurd (let z : ◌≡◌ {A = ℕ} 0 1 = cc in omega arith)
+pub placed : {s : List ℕ} {q stop k : ℕ} {vs : List FieldValue} → InstrAt s q stop k vs → InstrPlace s q k
+placed i = record { rules = i.rules; kind_is = i.kind_is; gives = i.gives; context = i.context }
 
 module _ (s : List ℕ) (q end b stop : ℕ) where
   -- a line: the fields after the result are es, then fs
@@ -103,37 +89,37 @@ module _ (s : List ℕ) (q end b stop : ℕ) where
   unfolding Given rows rule_test kind_row items_from read_item Valid ok_item after size_of instr_here type_here ids_here read_values read_value
   instr_at =
       by_lines P Class.instruction rows
-      (λ hd. (refl, line 60 (ir_type ∷ number 8 ∷ []) [] (lit≤ tt) (lit≤ tt) refl refl refl (λ _. refl) (λ _. refl) (λ _. no_context) hd))
-      (binary_line 61 (lit≤ tt) (lit≤ tt) refl refl refl (λ _. refl) (λ _. refl) (λ _. no_context))
-      (binary_line 62 (lit≤ tt) (lit≤ tt) refl refl refl (λ _. refl) (λ _. refl) (λ _. no_context))
-      (binary_line 63 (lit≤ tt) (lit≤ tt) refl refl refl (λ _. refl) (λ _. refl) (λ _. no_context))
-      (binary_line 64 (lit≤ tt) (lit≤ tt) refl refl refl (λ _. refl) (λ _. refl) (λ _. no_context))
-      (binary_line 65 (lit≤ tt) (lit≤ tt) refl refl refl (λ _. refl) (λ _. refl) (λ _. no_context))
-      (binary_line 66 (lit≤ tt) (lit≤ tt) refl refl refl (λ _. refl) (λ _. refl) (λ _. no_context))
-      (binary_line 67 (lit≤ tt) (lit≤ tt) refl refl refl (λ _. refl) (λ _. refl) (λ _. no_context))
-      (binary_line 68 (lit≤ tt) (lit≤ tt) refl refl refl (λ _. refl) (λ _. refl) (λ _. no_context))
-      (binary_line 69 (lit≤ tt) (lit≤ tt) refl refl refl (λ _. refl) (λ _. refl) (λ _. no_context))
-      (binary_line 70 (lit≤ tt) (lit≤ tt) refl refl refl (λ _. refl) (λ _. refl) (λ _. no_context))
-      (λ hd. (refl, line 71 (ir_type ∷ up_to 65534 ∷ number 8 ∷ []) [] (lit≤ tt) (lit≤ tt) refl refl refl (λ _. refl) (λ _. refl) (λ _. no_context) hd))
-      (λ hd. (refl, line 72 (up_to 65534 ∷ number 8 ∷ up_to 65534 ∷ []) [] (lit≤ tt) (lit≤ tt) refl refl refl (λ _. refl) (λ _. refl) (λ _. no_context) hd))
-      (λ hd. (refl, line 73 (ir_type ∷ number 4 ∷ []) [] (lit≤ tt) (lit≤ tt) refl refl refl (λ _. refl) (λ _. refl) (λ _. no_context) hd))
-      (λ hd. (refl, line 74 (number 4 ∷ up_to 65534 ∷ []) [] (lit≤ tt) (lit≤ tt) refl refl refl (λ _. refl) (λ _. refl) (λ _. no_context) hd))
-      (λ hd. (refl, line 75 (up_to 65534 ∷ ir_type ∷ []) [] (lit≤ tt) (lit≤ tt) refl refl refl (λ _. refl) (λ _. refl) (λ _. no_context) hd))
-      (λ hd. (refl, line 76 (up_to 65534 ∷ up_to 65534 ∷ []) [] (lit≤ tt) (lit≤ tt) refl refl refl (λ _. refl) (λ _. refl) (λ _. no_context) hd))
-      (λ hd. (refl, line 77 (up_to 65534 ∷ ir_type ∷ []) (listed (up_to 65534) ∷ []) (lit≤ tt) (lit≤ tt) refl refl refl (λ _. refl) (λ _. refl) (λ _. no_context) hd))
-      (λ hd. (refl, line 78 (up_to 65534 ∷ []) [] (lit≤ tt) (lit≤ tt) refl refl refl (λ _. refl) (λ _. refl) (λ _. no_context) hd))
-      (λ hd. (refl, line 79 (up_to 65534 ∷ up_to 65534 ∷ []) [] (lit≤ tt) (lit≤ tt) refl refl refl (λ _. refl) (λ _. refl) (λ _. no_context) hd))
-      (λ hd. (refl, line 80 (up_to 65534 ∷ []) (listed (up_to 65534) ∷ []) (lit≤ tt) (lit≤ tt) refl refl refl (λ _. refl) (λ _. refl) (λ _. no_context) hd))
+      (λ hd. (refl, line 60 (ir_type ∷ number 8 ∷ []) [] (lit≤ tt) (lit≤ tt) refl refl refl (λ _. refl) (λ _. refl) (λ _ e. cc) hd))
+      (binary_line 61 (lit≤ tt) (lit≤ tt) refl refl refl (λ _. refl) (λ _. refl) (λ _ e. cc))
+      (binary_line 62 (lit≤ tt) (lit≤ tt) refl refl refl (λ _. refl) (λ _. refl) (λ _ e. cc))
+      (binary_line 63 (lit≤ tt) (lit≤ tt) refl refl refl (λ _. refl) (λ _. refl) (λ _ e. cc))
+      (binary_line 64 (lit≤ tt) (lit≤ tt) refl refl refl (λ _. refl) (λ _. refl) (λ _ e. cc))
+      (binary_line 65 (lit≤ tt) (lit≤ tt) refl refl refl (λ _. refl) (λ _. refl) (λ _ e. cc))
+      (binary_line 66 (lit≤ tt) (lit≤ tt) refl refl refl (λ _. refl) (λ _. refl) (λ _ e. cc))
+      (binary_line 67 (lit≤ tt) (lit≤ tt) refl refl refl (λ _. refl) (λ _. refl) (λ _ e. cc))
+      (binary_line 68 (lit≤ tt) (lit≤ tt) refl refl refl (λ _. refl) (λ _. refl) (λ _ e. cc))
+      (binary_line 69 (lit≤ tt) (lit≤ tt) refl refl refl (λ _. refl) (λ _. refl) (λ _ e. cc))
+      (binary_line 70 (lit≤ tt) (lit≤ tt) refl refl refl (λ _. refl) (λ _. refl) (λ _ e. cc))
+      (λ hd. (refl, line 71 (ir_type ∷ up_to 65534 ∷ number 8 ∷ []) [] (lit≤ tt) (lit≤ tt) refl refl refl (λ _. refl) (λ _. refl) (λ _ e. cc) hd))
+      (λ hd. (refl, line 72 (up_to 65534 ∷ number 8 ∷ up_to 65534 ∷ []) [] (lit≤ tt) (lit≤ tt) refl refl refl (λ _. refl) (λ _. refl) (λ _ e. cc) hd))
+      (λ hd. (refl, line 73 (ir_type ∷ number 4 ∷ []) [] (lit≤ tt) (lit≤ tt) refl refl refl (λ _. refl) (λ _. refl) (λ _ e. cc) hd))
+      (λ hd. (refl, line 74 (number 4 ∷ up_to 65534 ∷ []) [] (lit≤ tt) (lit≤ tt) refl refl refl (λ _. refl) (λ _. refl) (λ _ e. cc) hd))
+      (λ hd. (refl, line 75 (up_to 65534 ∷ ir_type ∷ []) [] (lit≤ tt) (lit≤ tt) refl refl refl (λ _. refl) (λ _. refl) (λ _ e. cc) hd))
+      (λ hd. (refl, line 76 (up_to 65534 ∷ up_to 65534 ∷ []) [] (lit≤ tt) (lit≤ tt) refl refl refl (λ _. refl) (λ _. refl) (λ _ e. cc) hd))
+      (λ hd. (refl, line 77 (up_to 65534 ∷ ir_type ∷ []) (listed (up_to 65534) ∷ []) (lit≤ tt) (lit≤ tt) refl refl refl (λ _. refl) (λ _. refl) (λ _ e. cc) hd))
+      (λ hd. (refl, line 78 (up_to 65534 ∷ []) [] (lit≤ tt) (lit≤ tt) refl refl refl (λ _. refl) (λ _. refl) (λ _ e. cc) hd))
+      (λ hd. (refl, line 79 (up_to 65534 ∷ up_to 65534 ∷ []) [] (lit≤ tt) (lit≤ tt) refl refl refl (λ _. refl) (λ _. refl) (λ _ e. cc) hd))
+      (λ hd. (refl, line 80 (up_to 65534 ∷ []) (listed (up_to 65534) ∷ []) (lit≤ tt) (lit≤ tt) refl refl refl (λ _. refl) (λ _. refl) (λ _ e. cc) hd))
       (λ hd. (refl, line 81 (up_to 2 ∷ []) [] (lit≤ tt) (lit≤ tt) refl refl refl (λ _. refl) (λ _. refl) (λ v _. v.1.0) hd))
 
 -- each has a kind of the code
-abbrev K : Class → ℕ → List Field → Pattern → Type 0
-K c k fs p = (kind : Instruction) × (instr_number kind ≡ k)
+abbrev pub HasKind : {K : Type 0} → (K → ℕ) → Class → ℕ → List Field → Pattern → Type 0
+HasKind {K = K} numbered c k fs p = (kind : K) × (numbered kind ≡ k)
 
-pub instr_kind : OfRows K Class.instruction rows
+pub instr_kind : OfRows (HasKind instr_number) Class.instruction rows
 unfolding Given rows
 instr_kind =
-    by_lines K Class.instruction rows
+    by_lines (HasKind instr_number) Class.instruction rows
     (instr.Const, refl)
     (instr.Add, refl)
     (instr.Sub, refl)

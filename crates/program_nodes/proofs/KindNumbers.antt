@@ -1,7 +1,7 @@
--- The kinds of instructions, and the numbers that are read as kinds. Assumes nothing.
+-- The kinds of instructions, and the numbers that are read as contexts. Assumes nothing.
 use mathlib.Core.Path.{◌≡◌, refl, sym}
 use mathlib.Core.Logic.{◌⊎◌, inl, inr}
-use mathlib.Core.Bool.{true, false}
+use mathlib.Core.Bool.{true}
 use mathlib.Core.List.{List}
 use Prim.Native.Nat.{ℕ, ◌+◌, ◌≤◌}
 use native.Mathlib.Omega.{arith}
@@ -19,7 +19,7 @@ use Rattle.format.specs.declared.program.ContextKind.{ContextKind}
 use Rattle.format.specs.declared.program.ContextKind.TheVariants as context
 use Rattle.program_nodes.specs.Offsets.{own_at, left_at, right_at}
 use Rattle.program_nodes.specs.Positions.{type_here, instr_here, has_type, type_offset}
-use Rattle.format.specs.Kinds.{instr_number, Reads}
+use Rattle.format.specs.Kinds.{instr_number}
 use Rattle.format.specs.declared.kinds.Instruction.{Instruction}
 use Rattle.format.specs.declared.kinds.Instruction.TheVariants as instr
 
@@ -44,17 +44,6 @@ context_ok n (Err e) h l = absurd (by_test (eqb n 0) (λ z. h context.MsgSender 
     by_test (eqb n 1) (λ y. h context.MsgNonce (sym (eqb-true _ _ y))) (λ y.
     h context.BlockNumber (let a = eqb-false _ _ z in let b = eqb-false _ _ y in omega arith))))
 
--- WHAT STANDS IN A BLOCK has a kind, and is read as that
-pub kind_ok : {K : Type 0} (number : K → ℕ) {n : ℕ} (r : Result K UnknownKind) → Reads number n r → (k : K) × (number k ≡ n) → IsOk r
-kind_ok number (Ok k) h w = refl
-kind_ok number (Err x) h w = absurd (h w.0 w.1)
-
-pub kind_is : {K : Type 0} (number : K → ℕ) {n : ℕ} {r : Result K UnknownKind} {k : K} → Reads number n r → r ≡ Ok k → number k ≡ n
-kind_is number h e = rw e at h
-
-no_type : {A : Type 0} → false ≡ true → A
-no_type e = absurd (let z : ◌≡◌ {A = ℕ} 0 1 = cc in omega arith)
-
 -- THE TYPE among an instruction's fields: behind an id for ReadLocal and Call, and first for the others that have one
 pub type_second : (k : Instruction) → (k ≡ instr.ReadLocal) ⊎ (k ≡ instr.Call) → type_offset (instr_number k) ≡ own_at + 2
 type_second k (inl e) = rw e
@@ -75,11 +64,11 @@ type_first instr.Ge t n m = refl
 type_first instr.Load t n m = refl
 type_first instr.Store t n m = refl
 type_first instr.StateRead t n m = refl
-type_first instr.StateWrite t n m = no_type t
+type_first instr.StateWrite t n m = cc
 type_first instr.ReadLocal t n m = absurd (n refl)
-type_first instr.WriteLocal t n m = no_type t
+type_first instr.WriteLocal t n m = cc
 type_first instr.Call t n m = absurd (m refl)
-type_first instr.Assert t n m = no_type t
-type_first instr.Poseidon t n m = no_type t
-type_first instr.Emit t n m = no_type t
-type_first instr.ContextRead t n m = no_type t
+type_first instr.Assert t n m = cc
+type_first instr.Poseidon t n m = cc
+type_first instr.Emit t n m = cc
+type_first instr.ContextRead t n m = cc

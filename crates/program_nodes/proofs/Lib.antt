@@ -1,4 +1,3 @@
-pub mod Stand
 pub mod InstrRows
 pub mod Walk
 pub mod FunctionSteps

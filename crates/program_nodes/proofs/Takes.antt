@@ -1,15 +1,14 @@
 -- The first of a list of nodes is taken. Assumes nothing.
-use mathlib.Core.Path.{◌≡◌, refl, ap, sym, ◌∙◌}
+use mathlib.Core.Path.{◌≡◌, refl, ap}
 use mathlib.Core.List.{List, [], ◌∷◌}
-use Prim.Native.Nat.{ℕ, zero, suc, ◌+◌, ◌-◌, ◌<◌}
+use Prim.Native.Nat.{ℕ, zero, suc, ◌+◌, ◌-◌}
 use native.Mathlib.Numerals.{sub-one}
 use native.Mathlib.Omega.{arith}
-use lib.ListN.{length}
+use Rattle.std.specs.Prelude.{Some}
 use Rattle.definitions.specs.Fields.{le}
 use Rattle.definitions.specs.Records.{read_item, read_items, size_of}
-use Rattle.definitions.proofs.Sheets.Steps.{low}
-use Rattle.program_nodes.specs.Positions.{kind_here, stop_here, ids_here, first_block as first_place, FunctionStarts}
-use Rattle.program_nodes.specs.Nodes.{FirstFunction, FirstParam, FirstBlock, FirstInstr, FirstTerm, NoRecord, blocks_in, blocks_definitions_in}
+use Rattle.program_nodes.specs.Positions.{stop_here, ids_here}
+use Rattle.program_nodes.specs.Nodes.{FirstFunction, FirstParam, FirstBlock, FirstInstr, FirstTerm, NoRecord, TakesRecord, blocks_in, blocks_definitions_in}
 use Rattle.program_nodes.specs.Definitions.{param_definitions}
 use Rattle.program_nodes.specs.declared.program.Functions.{Functions}
 use Rattle.program_nodes.specs.declared.program.Function.{Function}
@@ -18,11 +17,11 @@ use Rattle.program_nodes.specs.declared.program.Param.{Param}
 use Rattle.program_nodes.specs.declared.block.Blocks.{Blocks}
 use Rattle.program_nodes.specs.declared.block.Block.{Block}
 use Rattle.program_nodes.specs.declared.block.Records.{Records}
+use Rattle.program_nodes.specs.declared.block.Record.{Record}
+use Rattle.program_nodes.specs.declared.block.Record.TheVariants as record'
 use Rattle.program_nodes.specs.declared.instr.Instr.{Instr}
 use Rattle.program_nodes.specs.declared.term.Term.{Term}
-use Rattle.program_nodes.proofs.Stand.{kept}
-use Rattle.program_nodes.proofs.FunctionSteps.{function_here_lem}
-use Rattle.program_nodes.proofs.Facts.{program_is}
+use Rattle.program_nodes.proofs.Facts.{function_is}
 use Rattle.program_nodes.proofs.Walk.{InstrStep, TermStep, BlockStep, instrs_step, terminator_instr, instrs_term, terminator_term, instrs_end, terminator_end, blocks_step, blocks_end}
 use Rattle.program_nodes.proofs.Definitions.{params_from, params_front, instr_definitions, term_definitions, end_definitions, blocks_definitions_lem, no_blocks}
 
@@ -62,29 +61,28 @@ pub first_term : {old : Records} {t : Term} → TermStep old.sheet.now old.at ol
     → t.sheet.now ≡ old.sheet.now → t.at ≡ old.at → FirstTerm old t
 first_term T s a = record { instrs = instrs_term T; terminator = rw (s, a) (terminator_term T); definitions = term_definitions T; sheet = s }
 
+-- what a match on the record told
+pub an_instr : {old new : Records} {r : Record} {i : Instr} → TakesRecord old new (Some r) → r ≡ record'.Instr i → FirstInstr old new i
+an_instr h e = rw e at h
+
+pub a_term : {old : Records} (new : Records) {r : Record} {t : Term} → TakesRecord old new (Some r) → r ≡ record'.Term t → FirstTerm old t
+a_term new h e = rw e at h
+
 pub no_record : (old : Records) → old.at ≡ old.end → NoRecord old
 no_record old e = record { instrs = instrs_end old.sheet.now e; terminator = terminator_end old.sheet.now e; definitions = end_definitions old.sheet.now e }
 
--- a place below a length that was read
-pub within : {n at long : ℕ} → n ≡ long → at < n → at < long
-within e l = omega arith
-
--- a function: what stands where a walk has come to, by its kind that was read
-pub function_there : (w : Functions) {a b : ℕ} → w.at < length w.program.sheet.now → a ≡ kind_here w.program.sheet.now w.at → a ≡ b → b ≡ 51 → FunctionStarts w.program.sheet.now w.at
-function_there w l e f g = record { program = (program_is w.program).records; from = kept w.here; there = l; kind = sym e ∙ (f ∙ g) }
-
-pub first_function : {old new : Functions} {f : Function} → FunctionStarts old.program.sheet.now old.at
-    → f.program.sheet.now ≡ old.program.sheet.now → f.at ≡ old.at → f.first ≡ first_place old.program.sheet.now old.at → f.stop ≡ stop_here old.program.sheet.now old.at
-    → new.program.sheet.now ≡ old.program.sheet.now → new.at ≡ stop_here old.program.sheet.now old.at → FirstFunction old new f
-first_function h s a fi st ns na =
-    let F = function_here_lem h in
+-- a function
+pub first_function : {old new : Functions} (f : Function) → f.program.sheet.now ≡ old.program.sheet.now → f.at ≡ old.at
+    → new.program.sheet.now ≡ old.program.sheet.now → new.at ≡ f.stop → FirstFunction old new f
+first_function f s a ns na =
+    let F = function_is f in
     record {
-      is = rw (s, a, fi, st, ns, na) F.read;
+      is = rw (ns, na, ← s, ← a) F.read;
       at = a;
       sheet = s;
       rest_sheet = ns;
-      less = omega (arith, F.low, low F.blocks, na);
-      within = rw (ns, na) F.high;
+      less = omega (arith, F.first_is, F.low, a, na);
+      within = rw (ns, na, ← s) F.inside;
     }
 
 -- a parameter

@@ -10,21 +10,23 @@ use borrow.Author.Tests.{le-leb, lt-leb}
 use Rattle.definitions.specs.Fields.{le}
 use Rattle.definitions.specs.Ir.{Instruction}
 use Rattle.definitions.specs.Grammar.{Class, Entry, up_to, optional, Field, single, Pattern, done, one, perhaps, many, origin, rows}
-use Rattle.definitions.specs.Records.{FieldValue, opt_from, may_end, read_item, size_of, fields_end, read_values, node, Trees, tnil, tcons, read_records, gather}
+use Rattle.definitions.specs.Records.{FieldValue, opt_from, after, left, may_end, read_item, size_of, fields_end, read_values, node, Trees, tnil, tcons, read_records, gather}
 use Rattle.definitions.specs.ProgramSheet.{own_of, terminator_of, instr_node_of, term_of, first_of, block_of}
-use Rattle.format.specs.Kinds.{instr_number, term_number}
-use Rattle.format.specs.declared.kinds.Instruction.{Instruction as InstrKind}
-use Rattle.format.specs.declared.kinds.Terminator.{Terminator as TermKind}
+use Rattle.format.specs.Kinds.{term_number}
 use Rattle.format.specs.declared.kinds.Terminator.TheVariants as term
-use Rattle.definitions.specs.Fine.{Head, Fine, ends}
+use Rattle.definitions.specs.Fine.{Head, Fine, ends, goes}
 use Rattle.definitions.proofs.Sheets.Passed.{read_end, read_step}
 use Rattle.definitions.proofs.Sheets.Lines.{OfRows, Given, by_lines}
 use Rattle.definitions.proofs.Sheets.Singles.{items_from, after as afterAll, Starts, starts, Own, own}
 use Rattle.definitions.proofs.Sheets.Steps.{Step, here, past, One, this, many_step, perhaps_step, one_step, done_ends, low}
 use Rattle.program_nodes.specs.Offsets.{head_width, block_id_at, records_at, fields_at, own_at}
-use Rattle.program_nodes.specs.Positions.{kind_here, stop_here, instr_here, size_here, term_here, term_size, instrs_here, terminator_here, block_here, blocks_here, BlockFrom, BlocksFrom, InstrTo, TermPlace}
-use Rattle.program_nodes.proofs.Stand.{alone, instr_after, term_after}
-use Rattle.program_nodes.proofs.InstrRows.{InstrAt, instr_at, instr_kind, placed}
+use Rattle.program_nodes.specs.Positions.{kind_here, stop_here, instr_here, size_here, term_here, term_size, instrs_here, terminator_here, block_here, blocks_here, BlockFrom, BlocksFrom, InstrTo}
+use Rattle.program_nodes.proofs.InstrRows.{InstrAt, HasKind, instr_at, placed}
+
+-- a record by itself
+alone : {s : List ℕ} {at end b stop : ℕ} {p : Pattern} (c : Class) {fs : List Field} → after (one c done) c ≡ left done → Head s at end c fs p b stop → Fine s b stop p → Fine s at stop (one c done)
+unfolding may_end
+alone c a hd kids = goes (record { is = hd.is; stop_is = hd.stop_is; valid = hd.valid; body_is = hd.body_is; low = hd.low; mid = hd.mid; high = omega arith }) a kids (ends refl refl)
 
 -- TERMINATORS, by their own values
 pub record TermAt (s : List ℕ) (q stop k : ℕ) (vs : List FieldValue) : Type 0 where
@@ -55,12 +57,9 @@ module _ (s : List ℕ) (q end b stop : ℕ) where
       (λ hd. (refl, term_line 93 [] (lit≤ tt) (lit≤ tt) refl refl hd))
 
 -- each has a kind of the code
-abbrev K : Class → ℕ → List Field → Pattern → Type 0
-K c k fs p = (kind : TermKind) × (term_number kind ≡ k)
-
-term_kind : OfRows K Class.terminator rows
+pub term_kind : OfRows (HasKind term_number) Class.terminator rows
 unfolding Given rows
-term_kind = by_lines K Class.terminator rows (term.Jump, refl) (term.Branch, refl) (term.Return, refl) (term.Unreachable, refl)
+term_kind = by_lines (HasKind term_number) Class.terminator rows (term.Jump, refl) (term.Branch, refl) (term.Return, refl) (term.Unreachable, refl)
 
 -- A BLOCK'S RECORDS: what stands at q
 pub record InstrStep (s : List ℕ) (q end stop : ℕ) : Type 0 where
@@ -91,12 +90,13 @@ size_big : (k : ℕ) → own_at ≤ size_here k
 size_big k = omega arith
 
 at_terminator : {s : List ℕ} {q end : ℕ} → Step s q end Class.terminator done done → AtRecord s q end
+unfolding after
 at_terminator (past f) = at_end (done_ends f)
 at_terminator {s} {q} {end} (here {fs = fs} {b = b} {stop = stop} hd kids more) =
     let t = term_at s q end b stop (kind_here s q) _ _ hd.is hd in
     let e : stop ≡ end = done_ends more in
     at_term (record {
-      alone = subst (λ (x : ℕ). Fine s q x (one Class.terminator done)) e (alone Class.terminator term_after hd kids);
+      alone = subst (λ (x : ℕ). Fine s q x (one Class.terminator done)) e (alone Class.terminator refl hd kids);
       stop_is = sym e ∙ hd.stop_is;
       vs = read_values fs s stop (q + head_width);
       at = subst (λ (x : ℕ). TermAt s q x (kind_here s q) (own_of (read_values fs s stop (q + head_width)))) e t.1;
@@ -106,11 +106,12 @@ at_terminator {s} {q} {end} (here {fs = fs} {b = b} {stop = stop} hd kids more) 
     })
 
 at_instruction : {s : List ℕ} {q end : ℕ} → Step s q end Class.instruction (many Class.instruction (perhaps Class.terminator done)) (perhaps Class.terminator done) → AtRecord s q end
+unfolding after
 at_instruction (past f) = at_terminator (perhaps_step Class.terminator done f)
 at_instruction {s} {q} {end} (here {fs = fs} {b = b} {stop = stop} hd kids more) =
     let t = instr_at s q end b stop (kind_here s q) _ _ hd.is hd in
     at_instr (subst (InstrStep s q end) hd.stop_is (record {
-      alone = alone Class.instruction instr_after hd kids;
+      alone = alone Class.instruction refl hd kids;
       vs = read_values fs s stop (q + head_width);
       at = t.1;
       high = hd.high;
@@ -142,36 +143,30 @@ unfolding may_end
 rest_here f l = elim (at_record f) [ at_end e ↦ absurd (omega arith) | at_instr I ↦ I.next | at_term T ↦ rw (← T.stop_is) (ends refl refl) ]
 
 -- A RECORD BY ITSELF
-pub instr_alone : {s : List ℕ} {q stop k : ℕ} → Fine s q stop (one Class.instruction done) → stop ≤ length s → k ≡ kind_here s q → InstrTo s q stop k
-instr_alone {s} {q} {stop} f l e = rw e (go (one_step Class.instruction done f))
+pub instr_alone : {s : List ℕ} {q stop : ℕ} → Fine s q stop (one Class.instruction done) → stop ≤ length s → InstrTo s q stop (kind_here s q)
+instr_alone {s} {q} {stop} f l = go (one_step Class.instruction done f)
   where
     go : One s q stop Class.instruction done → InstrTo s q stop (kind_here s q)
     go (this {fs = fs} {q = p} {b = b} {stop = x} hd kids more) =
         let I = (instr_at s q stop b x (kind_here s q) _ _ hd.is hd).1 in
         let z : x ≡ stop = done_ends more in
-        record { place = placed I (omega arith); room = omega (arith, I.fits); inside = l }
+        record { place = placed I; room = omega (arith, I.fits); inside = l }
 
-pub term_alone : {s : List ℕ} {q stop k : ℕ} → Fine s q stop (one Class.terminator done) → stop ≤ length s → k ≡ kind_here s q → TermPlace s q k
-term_alone {s} {q} {stop} f l e = rw e (go (one_step Class.terminator done f))
+pub term_alone : {s : List ℕ} {q stop : ℕ} → Fine s q stop (one Class.terminator done) → stop ≤ length s → q + term_size (kind_here s q) ≤ length s
+term_alone {s} {q} {stop} f l = go (one_step Class.terminator done f)
   where
-    go : One s q stop Class.terminator done → TermPlace s q (kind_here s q)
-    go (this {fs = fs} {q = p} {b = b} {stop = x} hd kids more) =
+    go : One s q stop Class.terminator done → q + term_size (kind_here s q) ≤ length s
+    go (this {b = b} {stop = x} hd kids more) =
         let T = (term_at s q stop b x (kind_here s q) _ _ hd.is hd).1 in
         let z : x ≡ stop = done_ends more in
-        record { low = T.low; high = T.high; fits = omega (arith, T.fits) }
+        omega (arith, T.fits)
 
 -- its kind
-pub instr_kind_alone : {s : List ℕ} {q stop : ℕ} → Fine s q stop (one Class.instruction done) → (k : InstrKind) × (instr_number k ≡ kind_here s q)
-instr_kind_alone {s} {q} {stop} f = go (one_step Class.instruction done f)
+pub kind_alone : {K : Type 0} (numbered : K → ℕ) {c : Class} {s : List ℕ} {q stop : ℕ} → OfRows (HasKind numbered) c rows → Fine s q stop (one c done) → (k : K) × (numbered k ≡ kind_here s q)
+kind_alone {K} numbered {c} {s} {q} {stop} kinds f = go (one_step c done f)
   where
-    go : One s q stop Class.instruction done → (k : InstrKind) × (instr_number k ≡ kind_here s q)
-    go (this hd kids more) = instr_kind (kind_here s q) _ _ hd.is
-
-pub term_kind_alone : {s : List ℕ} {q stop : ℕ} → Fine s q stop (one Class.terminator done) → (k : TermKind) × (term_number k ≡ kind_here s q)
-term_kind_alone {s} {q} {stop} f = go (one_step Class.terminator done f)
-  where
-    go : One s q stop Class.terminator done → (k : TermKind) × (term_number k ≡ kind_here s q)
-    go (this hd kids more) = term_kind (kind_here s q) _ _ hd.is
+    go : One s q stop c done → (k : K) × (numbered k ≡ kind_here s q)
+    go (this hd kids more) = kinds (kind_here s q) _ _ hd.is
 
 -- THE INSTRUCTIONS AND THE TERMINATOR of a block's records from q on
 module _ {s : List ℕ} {q end stop : ℕ} (I : InstrStep s q end stop) where

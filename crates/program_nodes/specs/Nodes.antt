@@ -1,22 +1,21 @@
 -- What the nodes stand for: the program of the definitions. Assumes nothing: these are definitions.
-use Rattle.std.specs.Prelude.{ℕ, suc, ◌+◌, ◌≤◌, ◌<◌, ◌≡◌, Bool, true, false, List, [], ◌∷◌, ◌++◌, map, eqb, length, Option, None, Some, Result, Ok, Err}
+use Rattle.std.specs.Prelude.{ℕ, suc, ◌+◌, ◌≤◌, ◌<◌, ◌≡◌, Bool, true, false, List, [], ◌∷◌, ◌++◌, map, eqb, length, Option, None, Some}
 use Rattle.std.proofs.Math.Option as maths
 use Rattle.definitions.specs.ContractSheet.{op_of}
 use Rattle.definitions.specs.Fields.{le}
 use Rattle.definitions.specs.Ir as ir
 use Rattle.definitions.specs.Grammar.{value_and_type}
-use Rattle.definitions.specs.Records.{Item, Form, Good, Bad, opt_from, number_of, type_of, read_items, read_records}
+use Rattle.definitions.specs.Records.{Item, opt_from, number_of, type_of, read_items, read_records}
+use Rattle.definitions.specs.Verify.{function_ids}
 use Rattle.format.specs.declared.kinds.Instruction as kinds
 use Rattle.format.specs.declared.kinds.Instruction.TheVariants as kind
 use Rattle.format.specs.Contexts.{context_number}
-use Rattle.format.specs.Operators.{op_number}
+use Rattle.format.specs.Operators.{operator_number}
 use Rattle.ir.specs.Types.{as_type}
 use Rattle.ir.specs.Answers.{option_of}
 use Rattle.ir.specs.declared.ValueId.{ValueId}
-use Rattle.sheet.specs.declared.errors.Malformed.{Malformed}
 use Rattle.program_nodes.specs.Offsets.{first_param_at, records_at, fields_at}
-use Rattle.program_nodes.specs.Positions as places
-use Rattle.program_nodes.specs.Positions.{kind_here, type_here, ids_here, instr_here, term_here, instrs_here, terminator_here, block_here, blocks_here, functions_here, function_here}
+use Rattle.program_nodes.specs.Positions.{kind_here, type_here, type_offset, ids_here, instr_here, term_here, instrs_here, terminator_here, block_here, blocks_here, functions_here, function_here}
 use Rattle.program_nodes.specs.Definitions.{Definition, param_definition, param_definitions, result_definition, block_definitions, blocks_definitions}
 use Rattle.program_nodes.specs.declared.program.Program.{Program}
 use Rattle.program_nodes.specs.declared.program.Functions.{Functions}
@@ -36,20 +35,15 @@ use Rattle.program_nodes.specs.declared.term.Term.{Term}
 use Rattle.program_nodes.specs.declared.term.Terminator.{Terminator}
 use Rattle.program_nodes.specs.declared.term.Terminator.TheVariants as term
 
--- the answer to the form of a program sheet
-abbrev pub form_of : Result Program Malformed → Form
-form_of (Ok p) = Good
-form_of (Err fault) = Bad fault.0
-
 abbrev pub value_of : ValueId → ℕ
 value_of v = v.0
 
 -- THE READINGS: functions
 abbrev pub functions_of : Program → List ir.IrFunction
-functions_of p = places.functions_of p.sheet.now
+functions_of p = functions_here p.sheet.now 6 (length p.sheet.now)
 
 abbrev pub ids_of_all : Program → List ℕ
-ids_of_all p = places.ids_of_all p.sheet.now
+ids_of_all p = function_ids (functions_of p)
 
 abbrev pub functions_in : Functions → List ir.IrFunction
 functions_in w = functions_here w.program.sheet.now w.at (length w.program.sheet.now)
@@ -77,9 +71,12 @@ instrs_in w = instrs_here w.sheet.now w.at w.end
 abbrev pub terminator_in : Records → maths.Option ir.Terminator
 terminator_in w = terminator_here w.sheet.now w.at w.end
 
--- an instruction, its result, and a terminator
+-- an instruction, the type among its own fields where its kind is k, its result, and a terminator
 abbrev pub instr_in : Instr → ir.Instruction
 instr_in i = instr_here (kind_here i.sheet.now i.at) i.sheet.now i.at i.stop
+
+abbrev pub own_type_in : Instr → ℕ → ir.IrType
+own_type_in i k = type_here i.sheet.now (i.at + type_offset k)
 
 abbrev pub result_in : Instr → maths.Option ℕ
 result_in i = opt_from (le 2 i.sheet.now (i.at + fields_at))
@@ -126,7 +123,7 @@ is_access kind.Emit = false
 -- WHAT THEY ARE
 abbrev pub instr_is : Instruction → ir.Instruction
 instr_is (instr.Const t n) = ir.Instruction.Const (as_type t) n
-instr_is (instr.Binary op t l r) = ir.Instruction.Binary (op_of (op_number op)) (as_type t) l.0 r.0
+instr_is (instr.Binary op t l r) = ir.Instruction.Binary (op_of (operator_number op)) (as_type t) l.0 r.0
 instr_is (instr.Load t b o) = ir.Instruction.Load (as_type t) b.0 o
 instr_is (instr.Store b o v) = ir.Instruction.Store b.0 o v.0
 instr_is (instr.StateRead t n) = ir.Instruction.StateRead (as_type t) n

@@ -1,25 +1,20 @@
 -- What stands at the places of a program sheet that passed 40: its records by position. Helpers of contracts: no public promise cites them.
 -- Assumes nothing: these are definitions.
-use Rattle.std.specs.Prelude.{ℕ, ◌+◌, ◌-◌, ◌*◌, ◌/◌, ◌≤◌, ◌<◌, ◌≡◌, Bool, true, false, ◌&&◌, List, ◌∷◌, map, leb, eqb, length}
+use Rattle.std.specs.Prelude.{ℕ, ◌+◌, ◌-◌, ◌*◌, ◌/◌, ◌≤◌, ◌≡◌, Bool, true, false, ◌&&◌, List, ◌∷◌, map, leb, eqb, length}
 use Rattle.std.proofs.Math.Option.{Option, none, some}
 use Rattle.definitions.specs.Fields.{le}
 use Rattle.definitions.specs.Ir.{IrType, Instruction, result_type, Terminator, InstrNode, BasicBlock, IrFunction}
 use Rattle.definitions.specs.Grammar.{Class, up_to, ir_type, value_and_type, done, perhaps, many}
-use Rattle.definitions.specs.Records.{pick, Item, ok_type, ok_items, number_of, type_of, type_from, opt_from, read_items, read_records, gather}
+use Rattle.definitions.specs.Records.{pick, Item, number_of, type_of, type_from, opt_from, read_items, read_records, gather}
 use Rattle.definitions.specs.InstrTable.{ResultRule, kind_row, kind_of, type_by}
-use Rattle.definitions.specs.Verify.{function_ids}
 use Rattle.definitions.specs.ProgramSheet.{binary_of, instr_node_of, block_of, term_of, first_of, ir_function_of}
 use Rattle.definitions.specs.Fine.{Fine}
 use Rattle.ir.specs.Kinds.{rule_in}
 use Rattle.program_nodes.specs.Offsets.{kind_at, function_id_at, function_name_at, return_type_at, param_count_at, first_param_at, block_id_at, records_at, fields_at, own_at, left_at, right_at, call_args_at, event_args_at}
 
--- TYPES: the type in the four bytes at a place; a type stands there
+-- TYPES: the type in the four bytes at a place
 unfoldable pub type_here : List ℕ → ℕ → IrType
 type_here s p = type_from (le 2 s p) (le 2 s (p + 2))
-
-pub record TypeAt (s : List ℕ) (p : ℕ) : Type 0 where
-  pub fits : p + 4 ≤ length s
-  pub fine : ok_type (le 2 s p) (le 2 s (p + 2)) ≡ true
 
 -- RECORDS: the kind of the one at a place, and where it stops
 abbrev pub kind_here : List ℕ → ℕ → ℕ
@@ -81,9 +76,6 @@ rule_test k = pick (own_rule (rule_in (kind_row k))) (has_type k) true && pick (
 
 -- an instruction of kind k stands at q; its record stops at `stop`
 pub record InstrPlace (s : List ℕ) (q k : ℕ) : Type 0 where
-  pub low : 60 ≤ k
-  pub high : k ≤ 81
-  pub fits : q + size_here k ≤ length s
   pub rules : rule_test k ≡ true
   pub kind_is : (stop : ℕ) → kind_of (instr_here k s q stop) ≡ k
   pub gives : (stop : ℕ) → result_type (instr_here k s q stop) ≡ by_rule (rule_in (kind_row k)) (type_here s (q + type_offset k))
@@ -103,11 +95,6 @@ term_here k s q =
 
 abbrev pub term_size : ℕ → ℕ
 term_size k = fields_at + pick (eqb k 91) 6 (pick (eqb k 93) 0 2)
-
-pub record TermPlace (s : List ℕ) (q k : ℕ) : Type 0 where
-  pub low : 90 ≤ k
-  pub high : k ≤ 93
-  pub fits : q + term_size k ≤ length s
 
 -- BLOCKS: the instructions and the terminator of a block's records from q on, and the block at b
 unfoldable pub instrs_here : List ℕ → ℕ → ℕ → List InstrNode
@@ -144,15 +131,9 @@ first_block s at = locals_at s at + 2 + 4 * le 2 s (locals_at s at)
 unfoldable pub types_here : ℕ → List ℕ → ℕ → List IrType
 types_here n s p = map type_of (read_items ir_type n s p)
 
--- the functions from p on, and all of a program
+-- the functions from p on
 unfoldable pub functions_here : List ℕ → ℕ → ℕ → List IrFunction
 functions_here s p end = gather 51 51 ir_function_of (read_records s p end)
-
-abbrev pub functions_of : List ℕ → List IrFunction
-functions_of s = functions_here s 6 (length s)
-
-abbrev pub ids_of_all : List ℕ → List ℕ
-ids_of_all s = function_ids (functions_of s)
 
 -- the functions and names of a sheet that passed stand from p on; all of them
 abbrev pub FunctionsFrom : List ℕ → ℕ → Type 0
@@ -172,22 +153,12 @@ function_here s at first stop = record {
   locals = types_here (le 2 s (locals_at s at)) s (locals_at s at + 2);
 }
 
--- a function stands at `at`
-pub record FunctionStarts (s : List ℕ) (at : ℕ) : Type 0 where
-  pub program : ProgramHere s
-  pub from : FunctionsFrom s at
-  pub there : at < length s
-  pub kind : kind_here s at ≡ 51
-
--- a function of the sheet: its fields and its blocks as they passed, and what stands after it
+-- a function of the sheet: its fields, its blocks as they passed, and what stands after it
 pub record FunctionHere (s : List ℕ) (at first stop name : ℕ) : Type 0 where
-  pub program : ProgramHere s
   pub name_is : name ≡ le 2 s (at + function_name_at)
   pub first_is : first ≡ first_block s at
   pub low : first ≤ stop
   pub inside : stop ≤ length s
   pub blocks : BlocksFrom s first stop
-  pub params : ok_items value_and_type (le 2 s (at + param_count_at)) s (at + first_param_at) ≡ true
-  pub returns : TypeAt s (at + return_type_at)
   pub next : FunctionsFrom s stop
   pub read : functions_here s at (length s) ≡ function_here s at first stop ∷ functions_here s stop (length s)

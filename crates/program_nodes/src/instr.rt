@@ -11,9 +11,6 @@ use ir::{FunctionId, IrType, LocalId, Name, ResultRule, ValueId};
 use reader::{read, read_u16};
 use sheet::places;
 
-// The right operand of a Poseidon.
-const POSEIDON_RIGHT: usize = program::POSEIDON_LEFT + ID;
-
 // An instruction by its place, and where its record stops.
 #[derive(Clone, Copy, Debug)]
 pub struct Instr<'a> {
@@ -64,14 +61,16 @@ impl<'a> Instr<'a> {
     ghost use Rattle.std.specs.Prelude.{true, ◌-◌, ◌/◌};
     ghost use Rattle.definitions.specs.ContractSheet.{op_of};
     ghost use Rattle.definitions.specs.Fields.{le};
-    ghost use Rattle.definitions.specs.InstrTable.{binary_kind};
+    ghost use Rattle.definitions.specs.InstrTable.{binary_kind, type_by};
     ghost use Rattle.definitions.specs.Ir.{result_type};
     ghost use Rattle.format.specs.Kinds.{instr_number};
-    ghost use Rattle.format.specs.Operators.{op_number};
+    ghost use Rattle.format.specs.Operators.{operator_number};
+    ghost use Rattle.std.proofs.Math.Option.{some};
     ghost use Rattle.ir.specs.Answers.{option_of};
+    ghost use Rattle.ir.specs.Kinds.{rule_of};
     ghost use Rattle.program_nodes.specs.Offsets.{right_at};
-    ghost use Rattle.program_nodes.specs.Positions.{ids_here, kind_here, size_here, has_type, type_offset};
-    ghost use Rattle.program_nodes.specs.Nodes.{instr_in, instr_is, is_access, result_is, result_in, value_of, ids_in};
+    ghost use Rattle.program_nodes.specs.Positions.{ids_here, kind_here, size_here, has_type, own_rule};
+    ghost use Rattle.program_nodes.specs.Nodes.{instr_in, instr_is, is_access, own_type_in, result_is, result_in, value_of, ids_in};
 
     // The id that stands at an offset, the type, and the number of so many bytes.
     fn id(self, offset: usize) -> u16
@@ -122,7 +121,7 @@ impl<'a> Instr<'a> {
     // The type among its own fields.
     fn own_type(self, kind: kinds::Instruction) -> IrType
         requires { (instr_number kind ≡ kind_here self.sheet.now self.at) × (has_type (instr_number kind) ≡ true) }
-        ensures { as_type result ≡ type_here self.entry.sheet.now (self.entry.at + type_offset (instr_number kind)) }
+        ensures { as_type result ≡ own_type_in self.entry (instr_number kind) }
     {
         let offset = match kind {
             kinds::Instruction::ReadLocal | kinds::Instruction::Call => program::TYPE_SECOND,
@@ -144,12 +143,21 @@ impl<'a> Instr<'a> {
         }
     }
 
+    // The rule of its result.
+    fn rule(self, kind: kinds::Instruction) -> ResultRule
+        requires { instr_number kind ≡ kind_here self.sheet.now self.at }
+        ensures own { own_rule (some (rule_of result)) ≡ true → has_type (instr_number kind) ≡ true }
+        ensures gives { type_by (rule_of result) (own_type_in self.entry (instr_number kind)) ≡ result_type (instr_in self.entry) }
+    {
+        ir::kind_row(kind).result
+    }
+
     // The type of its result, by the rule of its kind; None if it gives none.
     pub fn result_type(self) -> Option<IrType>
         ensures { option_of as_type result ≡ result_type (instr_in self.entry) }
     {
         let kind = self.kind();
-        match ir::kind_row(kind).result {
+        match self.rule(kind) {
             ResultRule::Own => Some(self.own_type(kind)),
             ResultRule::OwnUnlessVoid => match self.own_type(kind) {
                 IrType::Void => None,
@@ -185,7 +193,7 @@ impl<'a> Instr<'a> {
             kinds::Instruction::Assert => Instruction::Assert(ValueId(self.id(program::ASSERTED))),
             kinds::Instruction::Poseidon => Instruction::Poseidon(
                 ValueId(self.id(program::POSEIDON_LEFT)),
-                ValueId(self.id(POSEIDON_RIGHT)),
+                ValueId(self.id(program::POSEIDON_RIGHT)),
             ),
             kinds::Instruction::Emit => Instruction::Emit(
                 Name::new(self.id(program::EVENT)),
@@ -204,7 +212,7 @@ impl<'a> Instr<'a> {
 
     // The binary instruction of an operator.
     fn binary(self, op: BinOp) -> Instruction<'a>
-        requires { (binary_kind (op_of (op_number op)) ≡ kind_here self.sheet.now self.at) × (self.at + right_at + 2 ≤ self.stop) }
+        requires { (binary_kind (op_of (operator_number op)) ≡ kind_here self.sheet.now self.at) × (self.at + right_at + 2 ≤ self.stop) }
         ensures { instr_is result ≡ instr_in self.entry }
     {
         Instruction::Binary(

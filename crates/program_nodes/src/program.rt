@@ -2,6 +2,7 @@
 ghost use Rattle.std.specs.Prelude.{◌≡◌, ◌+◌, ◌-◌, ◌*◌, ◌≤◌, length};
 ghost use Rattle.definitions.specs.Records.{Good};
 ghost use Rattle.definitions.specs.ProgramSheet.{refusal40};
+ghost use Rattle.program_nodes.specs.Positions.{kind_here, stop_here, locals_at, first_block};
 ghost use Rattle.program_nodes.specs.Standing.{FunctionsStand, FunctionStands};
 
 use crate::block::Blocks;
@@ -35,6 +36,7 @@ pub struct Function<'a> {
     pub stop: usize,
     pub name: Name,
     pub ghost here: { FunctionStands program.sheet.now at first stop name.0 },
+    pub ghost room: { locals_at program.sheet.now at + 2 ≤ length program.sheet.now },
 }
 
 // So many parameters of a function from a place on.
@@ -56,7 +58,8 @@ pub struct Param<'a> {
 
 impl<'a> Program<'a> {
     ghost use Rattle.std.specs.Prelude.{IfOk};
-    ghost use Rattle.program_nodes.specs.Nodes.{form_of, functions_in, functions_of};
+    ghost use Rattle.sheet.specs.Forms.{form_of};
+    ghost use Rattle.program_nodes.specs.Nodes.{functions_in, functions_of};
 
     // The program of a sheet: refusal 40.
     pub fn new(sheet: &'a [u8]) -> Result<Self, Malformed>
@@ -98,28 +101,35 @@ impl<'a> Iterator for Functions<'a> {
 
     fn next(&mut self) -> Option<Function<'a>> {
         let program = self.program;
-        let s = program.sheet;
         let at = self.at;
         if program.len() <= at {
             return None;
         }
-        if read_u16(s, at + KIND) != u16::from(Kind::IrFunction) {
+        if read_u16(program.sheet, at + KIND) != u16::from(Kind::IrFunction) {
             return None;
         }
-        let locals = locals_at(s, at);
-        let function = Function {
-            program,
-            at,
-            first: locals + COUNT + TYPE * read(s, locals, COUNT),
-            stop: at + read(s, at, 4),
-            name: Name::new(read_u16(s, at + program::FUNCTION_NAME)),
-        };
+        let function = function_at(program, at);
         self.at = function.stop;
         Some(function)
     }
 }
 
-ghost use Rattle.program_nodes.specs.Positions.{locals_at};
+// The function that stands at a place.
+fn function_at(program: Program<'_>, at: usize) -> Function<'_>
+    requires stands { FunctionsStand program.sheet.now at × (kind_here program.sheet.now at ≡ 51) }
+    requires room { (first_block program.sheet.now at ≤ stop_here program.sheet.now at) × (stop_here program.sheet.now at ≤ length program.sheet.now) }
+    ensures { (result.program.sheet.now ≡ program.entry.sheet.now) × (result.at ≡ at) }
+{
+    let s = program.sheet;
+    let locals = locals_at(s, at);
+    Function {
+        program,
+        at,
+        first: locals + COUNT + TYPE * read(s, locals, COUNT),
+        stop: at + read(s, at, 4),
+        name: Name::new(read_u16(s, at + program::FUNCTION_NAME)),
+    }
+}
 
 // The place of the count of locals of the function at a place.
 fn locals_at(s: &[u8], at: usize) -> usize
@@ -140,6 +150,7 @@ impl<'a> Function<'a> {
     }
 
     // Its parameters.
+    #[tactic(auto, unfolding(crate::specs::Positions::params_here))]
     pub fn params(self) -> Params<'a>
         ensures { ParamsOf self.entry result }
     {
@@ -166,6 +177,7 @@ impl<'a> Function<'a> {
     }
 
     // Its blocks.
+    #[tactic(auto, unfolding(crate::specs::Nodes::definitions_of))]
     pub fn blocks(self) -> Blocks<'a>
         ensures { BlocksOf self.entry result }
     {

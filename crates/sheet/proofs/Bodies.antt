@@ -1,7 +1,7 @@
 -- Where the children of a record that passed start: behind its fields, one after another. Assumes nothing.
-use Rattle.std.proofs.Common.{◌≡◌, ℕ, ◌+◌, ◌<◌, ◌≤◌, List, length, drop, get_or, arith, add-one, drop-cons}
+use Rattle.std.proofs.Common.{◌≡◌, ℕ, ◌+◌, ◌<◌, ◌≤◌, List, length, drop, get_or, arith}
 use Rattle.std.proofs.Math.Option.{some}
-use Rattle.std.proofs.lemmas.List.{drop_all}
+use Rattle.std.proofs.lemmas.List.{drop_all, drop_more}
 use Rattle.definitions.specs.Grammar.{rows}
 use Rattle.definitions.specs.Records.{row_in, past_all, field_end}
 use Rattle.definitions.proofs.Sheets.Passed.{first_past, field_within}
@@ -38,7 +38,7 @@ module _ {s : List ℕ} {stop : ℕ} {fs : List Field} {body place n : ℕ} (w :
 
     pub next : Next
     next =
-        let v = rw (drop-cons fs n d h) at w.valid in
+        let v = rw (drop_more fs n d h) at w.valid in
         let a = first_past (field_of (get_or fs n d)) _ s stop place v in
         let b = field_within (field_of (get_or fs n d)) s stop place a.0 w.high in
-        record { within = b.1; more = record { high = b.1; valid = rw add-one a.1 } }
+        record { within = b.1; more = record { high = b.1; valid = a.1 } }

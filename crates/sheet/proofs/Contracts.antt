@@ -7,7 +7,7 @@ use lib.Dec.{leb}
 use lib.ListN.{length}
 use borrow.Author.Tests.{le-leb, leb-true}
 use Rattle.definitions.specs.Result.{err, ok, ◌>>◌, check}
-use Rattle.definitions.specs.Records.{Form, Good, Bad}
+use Rattle.definitions.specs.Records.{Verdict, Good, Bad}
 use Rattle.definitions.specs.ContractSheet.{refusal3, refusal4}
 use Rattle.definitions.specs.Answers.{refusal, refuse_form, check_contract}
 use Rattle.sheet.specs.Passed.{ContractPassed}
@@ -26,7 +26,7 @@ module _ (s : List ℕ) (h : length s ≤ 32768) where
 pub passed : (s : List ℕ) → check_contract s ≡ ok tt → ContractPassed s
 passed s e = go (leb (length s) 32768) (refusal3 s) (refusal4 s) refl refl refl e
   where
-    go : (b : Bool) (f l : Form) → leb (length s) 32768 ≡ b → refusal3 s ≡ f → refusal4 s ≡ l
+    go : (b : Bool) (f l : Verdict) → leb (length s) 32768 ≡ b → refusal3 s ≡ f → refusal4 s ≡ l
         → (check b (refusal 1 []) >> (refuse_form 3 f >> refuse_form 4 l)) ≡ ok tt → ContractPassed s
     go false f l p q r z = absurd cc
     go true (Bad x) l p q r z = absurd cc

@@ -1,7 +1,7 @@
 -- The record that starts at a place: its row, and what it leaves of the pattern around it. Assumes nothing.
-use Rattle.std.proofs.Common.{◌≡◌, ℕ, ◌+◌, ◌-◌, ◌<◌, ◌≤◌, refl, sym, ◌∙◌, Bool, true, false, leb, List, arith}
+use Rattle.std.proofs.Common.{◌≡◌, ℕ, ◌+◌, ◌-◌, ◌≤◌, refl, sym, ◌∙◌, Bool, true, false, leb, List, arith}
 use Rattle.std.proofs.Math.Option.{Option, none, some}
-use borrow.Author.Tests.{le-leb, lt-leb, leb-true}
+use borrow.Author.Tests.{leb-true}
 use Rattle.definitions.specs.Fields.{le}
 use Rattle.definitions.specs.Grammar.{Class, Field, Pattern, rows}
 use Rattle.definitions.specs.Records.{pick, Row, no_row, row, row_in, Next, refused, left, after, Start, nothing, starts, start_if, start_row, start_at, past_all}
@@ -17,24 +17,6 @@ shut (Err fault) h e = e
 shut (Ok a) h e = absurd cc
 
 module _ (s : List ℕ) (at end : ℕ) where
-  -- the code's ways through `row_at`
-  pub no_room : end - at < 6 → no_row ≡ row_at s at end
-  unfolding row_at
-  no_room h = rw (lt-leb 6 (end - at) h)
-
-  module _ (r : 6 ≤ end - at) {l : ℕ} (e : l ≡ le 4 s at) where
-    pub too_short : l < 6 → no_row ≡ row_at s at end
-    unfolding row_at
-    too_short h = rw (le-leb 6 (end - at) r, ← e, lt-leb 6 l h)
-
-    pub too_long : 6 ≤ l → end - at < l → no_row ≡ row_at s at end
-    unfolding row_at
-    too_long g h = rw (le-leb 6 (end - at) r, ← e, le-leb 6 l g, lt-leb l (end - at) h)
-
-    pub whole : 6 ≤ l → l ≤ end - at → {n : ℕ} → n ≡ le 2 s (at + 4) → row_in n rows ≡ row_at s at end
-    unfolding row_at
-    whole g h f = rw (le-leb 6 (end - at) r, ← e, le-leb 6 l g, le-leb l (end - at) h, f)
-
   -- a row: the record's length fits
   module _ {c : Class} {fs : List Field} {p : Pattern} (e : row c fs p ≡ row_at s at end) where
     pub record Fitting : Type 0 where

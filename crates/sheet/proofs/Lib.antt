@@ -1,4 +1,5 @@
--- For the proofs of other crates: `Nodes` opens a record of a sheet that passed, and says where its children start and what its fields are.
+-- For the proofs of other crates: `Nodes` opens a record of a sheet that passed, and says where its children start and what its fields are; `Standing`
+-- has what a node keeps of a check.
 mod Bodies
 mod Checks
 pub mod Contracts
@@ -9,5 +10,6 @@ mod Lists
 pub mod Nodes
 mod Patterns
 mod Rows
+pub mod Standing
 mod Widths
 mod Within

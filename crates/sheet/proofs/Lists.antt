@@ -92,6 +92,7 @@ module _ (e : Entry) (s : List ℕ) where
       sym (one_invalid n at f.0 h (rw z at (f.2 0)))
 
   -- the code's loop over n entries, whatever it asks of each
-  pub all_valid : {F : Type 0} {g : Mut F (ℕ × Unit {0}) Bool} (n at : ℕ) (u : Range ℕ) (f : F) (r : Bool) → ChecksAll nat_range_steps g (record { start = 0; end = n }) f r u
-      → ((x : ℕ) (q : F) → Called g f (x, tt) true q → (q ≡ f) × Valid at x) → ((x : ℕ) (q : F) → Called g f (x, tt) false q → Invalid at x) → r ≡ ok_items e n s at
-  all_valid n at u f r ran holds fails = valid n at r (cases_from_all u f r (Valid at) (Invalid at) ran (YieldsList-from_range 0 n n refl (omega arith)) holds fails)
+  pub all_valid : {F : Type 0} {g : Mut F (ℕ × Unit {0}) Bool} (at : ℕ) {n : ℕ} {u : Range ℕ} {f : F} {r : Bool} → ChecksAll nat_range_steps g (record { start = 0; end = n }) f r u
+      → ((x : ℕ) (b : Bool) (q : F) → Called g f (x, tt) b q → (q ≡ f) × (ok_item e s (at + size_of e * x) ≡ b)) → r ≡ ok_items e n s at
+  all_valid at {n} {u} {f} {r} ran told =
+      valid n at r (cases_from_all u f r (Valid at) (Invalid at) ran (YieldsList-from_range 0 n n refl (omega arith)) (λ x q. told x true q) (λ x q k. (told x false q k).1))

@@ -4,6 +4,7 @@ use mathlib.Core.List.{List}
 use Prim.Native.Nat.{ℕ, ◌+◌, ◌<◌, ◌≤◌}
 use native.Mathlib.Omega.{arith}
 use lib.ListN.{length}
+use Rattle.definitions.specs.Fields.{le}
 use Rattle.definitions.specs.Grammar.{Class, Field, Pattern, rows}
 use Rattle.definitions.specs.Records.{no_row, row_in, row_fields, fields_end, read_values}
 use Rattle.definitions.specs.Fine.{Head, Fine, ends, goes}
@@ -45,6 +46,10 @@ in_order {s} {at} {end} p = go p.fine
     go : {q : Pattern} → Fine s at end q → at ≤ end
     go (ends z m) = omega arith
     go (goes hd a kids rest) = omega (arith, hd.low, hd.mid, hd.high)
+
+-- its length, of 6 bytes at least, ends within what passed
+pub fits : {s : List ℕ} {at end : ℕ} → Passed s at end → at < end → (6 ≤ le 4 s at) × (at + le 4 s at ≤ end)
+fits p h = let d = (opens p h).head in (omega (arith, d.low, d.mid), d.high)
 
 -- its kind is one that `Kind::try_from` knows
 pub known : {s : List ℕ} {at stop k : ℕ} → Standing s at stop k → {n : ℕ} → n ≡ record_kind s at → (r : Result Kind UnknownKind) → IsKind n r → IsOk r

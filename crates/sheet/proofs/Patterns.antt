@@ -1,7 +1,6 @@
 -- The pattern under way, one child at a time. Assumes nothing.
 use Rattle.std.proofs.Common.{◌≡◌, ℕ, ◌-◌, ◌≤◌, refl, sym, ap, ◌∙◌, true, false, eqb, List, [], ◌∷◌, length, get_or, take, drop}
-use Rattle.std.proofs.lemmas.List.{take_rest}
-use native.Mathlib.Nat.{not-suc-le-zero}
+use Rattle.std.proofs.lemmas.List.{take_rest, drop_all, drop_more}
 use borrow.Author.Tests.{eq-eqb, ne_eqb}
 use Rattle.definitions.specs.Grammar.{class_no, Pattern}
 use Rattle.definitions.specs.Records.{refused, left, after}
@@ -72,32 +71,27 @@ module _ (c : Child) (p : Pattern) (k : Class) where
       go often.AtMostOnce m = rw (m, other_no f)
       go often.Any m = rw (m, other_no f)
 
--- ALL CHILDREN: cs is left of the pattern, and decides
-opened : (cs : List Child) (d : Child) → 1 ≤ length cs → cs ≡ get_or cs 0 d ∷ drop 1 cs
-opened [] d h = absurd (not-suc-le-zero h)
-opened (c ∷ cs) d h = refl
+-- ALL CHILDREN: cs is left of the pattern, and decides what it leaves after a class
+pub record Seeking (pattern : List Child) (k : Class) (cs : List Child) : Type 0 where
+  pub same : after (pattern_of pattern) (class_of k) ≡ after (pattern_of cs) (class_of k)
 
-empty : (cs : List Child) → length cs ≤ 0 → cs ≡ []
-empty [] h = refl
-empty (c ∷ cs) h = absurd (not-suc-le-zero h)
-
-module _ (pattern cs : List Child) (k : Class) (same : after (pattern_of pattern) (class_of k) ≡ after (pattern_of cs) (class_of k)) where
+module _ {pattern cs : List Child} {k : Class} (s : Seeking pattern k cs) where
   pub over : length cs ≤ 0 → refused ≡ after (pattern_of pattern) (class_of k)
   unfolding after
-  over h = let z : cs ≡ [] = empty cs h in rw (same, z)
+  over h = let z : cs ≡ [] = drop_all 0 cs h in rw (s.same, z)
 
   module _ (d : Child) (h : 1 ≤ length cs) where
     is : pattern_of cs ≡ then_child (get_or cs 0 d) (pattern_of (drop 1 cs))
-    is = ap pattern_of (opened cs d h)
+    is = ap pattern_of (drop_more cs 0 d h)
 
     pub stays : (get_or cs 0 d).class ≡ k → (get_or cs 0 d).often ≡ often.Any → left (pattern_of cs) ≡ after (pattern_of pattern) (class_of k)
-    stays e m = rw (same, is) (sym (stays_one (get_or cs 0 d) (pattern_of (drop 1 cs)) k e m))
+    stays e m = rw (s.same, is) (sym (stays_one (get_or cs 0 d) (pattern_of (drop 1 cs)) k e m))
 
     pub leaves : (get_or cs 0 d).class ≡ k → ((get_or cs 0 d).often ≡ often.Any → ⊥) → left (pattern_of (take (length cs - 1) (drop 1 cs))) ≡ after (pattern_of pattern) (class_of k)
-    leaves e f = rw (take_rest cs 1, same, is) (sym (leaves_one (get_or cs 0 d) (pattern_of (drop 1 cs)) k e f))
+    leaves e f = rw (take_rest cs 1, s.same, is) (sym (leaves_one (get_or cs 0 d) (pattern_of (drop 1 cs)) k e f))
 
     pub refuses : ((get_or cs 0 d).class ≡ k → ⊥) → (get_or cs 0 d).often ≡ often.Once → refused ≡ after (pattern_of pattern) (class_of k)
-    refuses f m = rw (same, is) (sym (refuses_one (get_or cs 0 d) (pattern_of (drop 1 cs)) k f m))
+    refuses f m = rw (s.same, is) (sym (refuses_one (get_or cs 0 d) (pattern_of (drop 1 cs)) k f m))
 
-    pub seeks : ((get_or cs 0 d).class ≡ k → ⊥) → ((get_or cs 0 d).often ≡ often.Once → ⊥) → after (pattern_of pattern) (class_of k) ≡ after (pattern_of (take (length cs - 1) (drop 1 cs))) (class_of k)
-    seeks f g = rw (take_rest cs 1, same, is) (seeks_one (get_or cs 0 d) (pattern_of (drop 1 cs)) k f g)
+    pub seeks : ((get_or cs 0 d).class ≡ k → ⊥) → ((get_or cs 0 d).often ≡ often.Once → ⊥) → Seeking pattern k (take (length cs - 1) (drop 1 cs))
+    seeks f g = record { same = rw (take_rest cs 1, s.same, is) (seeks_one (get_or cs 0 d) (pattern_of (drop 1 cs)) k f g) }

@@ -3,7 +3,7 @@ use Rattle.std.proofs.Common.{◌≡◌, ℕ, refl, sym, ◌∙◌, List, [], �
 use borrow.Author.Tests.{ne_eqb}
 use Rattle.definitions.specs.Grammar.{Line, kind, rows}
 use Rattle.definitions.specs.Records.{no_row, row_in}
-use Rattle.format.specs.Kinds.{number_of}
+use Rattle.format.specs.Kinds.{kind_number}
 use Rattle.format.specs.declared.kinds.Item.TheVariants as item
 use Rattle.format.specs.declared.kinds.Stmt.TheVariants as stmt
 use Rattle.format.specs.declared.kinds.Expr.TheVariants as expr
@@ -75,16 +75,16 @@ all_kinds =
 abbrev line_kind : Line → ℕ
 line_kind (kind j c fs p) = j
 
-absent : (n : ℕ) (ls : List Line) (ks : List Kind) → map number_of ks ≡ map line_kind ls → ((k : Kind) → number_of k ≡ n → ⊥) → row_in n ls ≡ no_row
+absent : (n : ℕ) (ls : List Line) (ks : List Kind) → map kind_number ks ≡ map line_kind ls → ((k : Kind) → kind_number k ≡ n → ⊥) → row_in n ls ≡ no_row
 unfolding row_in
 absent n [] ks e f = refl
 absent n (l ∷ ls) [] e f = absurd cc
 absent n (kind j c fs p ∷ ls) (k ∷ ks) e f =
-    let here : number_of k ≡ j = cc in
-    let there : map number_of ks ≡ map line_kind ls = cc in
+    let here : kind_number k ≡ j = cc in
+    let there : map kind_number ks ≡ map line_kind ls = cc in
     rw (ne_eqb n j (λ z. f k (here ∙ sym z))) (absent n ls ks there f)
 
 -- `no kind has the number n` is what `Kind::try_from` says of an error
-pub unknown : {n : ℕ} → ((k : Kind) → number_of k ≡ n → ⊥) → row_in n rows ≡ no_row
+pub unknown : {n : ℕ} → ((k : Kind) → kind_number k ≡ n → ⊥) → row_in n rows ≡ no_row
 unfolding all_kinds rows
 unknown {n} f = absent n rows all_kinds refl f

@@ -1,6 +1,7 @@
 -- How wide a record that passed is: the ways of the code through `too_wide`. Assumes nothing.
 use mathlib.Core.Path.{◌≡◌, sym, ap, ◌∙◌}
 use mathlib.Core.List.{List, [], ◌∷◌}
+use mathlib.Core.Logic.{◌⊎◌, inl, inr, ⊎_elim}
 use Prim.Native.Nat.{ℕ, ◌+◌, ◌-◌, ◌/◌, ◌≤◌}
 use native.Mathlib.Omega.{arith}
 use lib.Dec.{leb}
@@ -14,6 +15,15 @@ use Rattle.definitions.proofs.Sheets.Singles.{after, starts}
 use Rattle.sheet.specs.Limits.{too_wide}
 use Rattle.sheet.specs.Passed.{Node, Passed, Standing, record_kind, stop_of, body_of, values_at, children_of}
 use Rattle.sheet.proofs.Nodes.{opens, head_of, children_of_lem, values_of}
+
+-- an Emit or a Call: 16 arguments at most
+abbrev pub HasArguments : ℕ → Type 0
+HasArguments k = (k ≡ 19) ⊎ (k ≡ 37)
+
+arguments_limit : {k : ℕ} → HasArguments k → (v : List FieldValue) (m : ℕ) → too_wide k v m ≡ leb 17 m
+unfolding too_wide
+arguments_limit (inl q) v m = rw q
+arguments_limit (inr q) v m = rw q
 
 module _ {s : List ℕ} {at stop k : ℕ} (w : Standing s at stop k) where
   n : Node s at w.end
@@ -54,15 +64,14 @@ module _ {s : List ℕ} {at stop k : ℕ} (w : Standing s at stop k) where
         let l : length (items_at 3 (values_at s at)) ≡ le 2 s (at + 12) = ap (λ (v : List FieldValue). length (items_at 3 v)) (values_of n (is e)) ∙ items_count name_and_type _ s _ ∙ rw z in
         rw (e, l, f)
 
-  -- a kind j with the fields of an Emit (19): its arguments are its children
-  module _ {j : ℕ} (e : k ≡ j) (f : row_fields (row_in j rows) ≡ row_fields (row_in 19 rows)) where
+  -- an Emit or a Call: its arguments are its children
+  module _ (e : HasArguments k) where
     arguments_start : body_of s at ≡ at + 8
     unfolding row_fields row_in rows field_end fields_end size_of
-    arguments_start = let b = rw f at (children_of_lem n (is e)) in omega (arith, b)
+    arguments_start = ⊎_elim (λ q. omega (arith, children_of_lem n (is q))) (λ q. omega (arith, children_of_lem n (is q))) e
 
     pub arguments_passed : Passed s (at + 8) stop × (stop ≤ length s)
     arguments_passed = (record { pattern = n.pattern; fine = rw (arguments_start, ← es) at n.kids }, stop_inside)
 
-    pub arguments_wide : ((v : List FieldValue) (m : ℕ) → too_wide j v m ≡ leb 17 m) → {x : ℕ} → x ≡ count_trees (read_records s (at + 8) stop)
-        → leb 17 x ≡ too_wide k (values_at s at) (count_trees (children_of s at))
-    arguments_wide h g = rw (e, h, arguments_start, ← es, g)
+    pub arguments_wide : {x : ℕ} → x ≡ count_trees (read_records s (at + 8) stop) → leb 17 x ≡ too_wide k (values_at s at) (count_trees (children_of s at))
+    arguments_wide g = rw (arguments_limit e, arguments_start, ← es, g)

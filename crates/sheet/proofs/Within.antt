@@ -8,14 +8,13 @@ use native.Mathlib.Omega.{arith}
 use lib.Dec.{leb, eqb}
 use lib.ListN.{length}
 use borrow.Author.Tests.{le-leb, lt-leb, eqb-true}
-use Rattle.definitions.specs.Fields.{le}
 use Rattle.definitions.specs.Records.{pick, Good, Bad, and_then, read_records, items_at}
 use Rattle.definitions.specs.ContractSheet.{count_trees, Counts, none_before, Measured, over, limit_tree, limit_trees}
 use Rattle.definitions.proofs.Results.{by_test}
 use Rattle.definitions.proofs.Contracts.Limits.{measured}
 use Rattle.definitions.proofs.Sheets.Passed.{read_end}
 use Rattle.sheet.specs.Limits.{total, and_kind, too_many, too_wide}
-use Rattle.sheet.specs.Passed.{Node, Passed, Standing, record_kind, stop_of, body_of, values_at, children_of}
+use Rattle.sheet.specs.Passed.{Node, Passed, record_kind, stop_of, body_of, values_at, children_of}
 use Rattle.sheet.proofs.Nodes.{opens, in_order}
 
 -- the depth is looked at first by the code, and last by `over`
@@ -67,17 +66,8 @@ module _ {s : List ℕ} {at end depth place : ℕ} {b : Counts} (g : Limiting s 
 
   -- the next record
   module _ (h : place < end) where
-    pub stands : end ≤ length s → {stop k : ℕ} → stop ≡ stop_of s place → k ≡ record_kind s place → Standing s place stop k
-    stands i e f = record { end = end; passed = g.passed; starts = h; inside = i; stop_is = e; kind_is = f }
-
     n : Node s place end
     n = opens g.passed h
-
-    pub spans : (6 ≤ le 4 s place) × (place + le 4 s place ≤ end)
-    spans =
-        let i : place + 6 ≤ body_of s place = n.head.low in
-        let j : body_of s place ≤ stop_of s place = n.head.mid in
-        (omega arith, n.head.high)
 
     opened : {k : ℕ} → k ≡ record_kind s place → limit_trees (read_records s at end) depth none_before
         ≡ and_then (pick (leb 41 depth || (too_many k b.storage b.structs b.functions || too_wide k (values_at s place) (count_trees (children_of s place)))) (Bad place) (limit_trees (children_of s place) (suc depth) none_before))

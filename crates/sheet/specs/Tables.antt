@@ -1,6 +1,6 @@
 -- The code's table (src/tables.rt) in the words of the grammar. Nothing here has to be believed: only the contracts of private functions cite it.
 -- Assumes nothing: these are definitions.
-use Rattle.std.specs.Prelude.{ℕ, ◌+◌, ◌-◌, List, [], ◌∷◌, map, leb, Option, None, Some, Result, Ok, Err}
+use Rattle.std.specs.Prelude.{ℕ, ◌+◌, ◌-◌, ◌≤◌, List, [], ◌∷◌, length, map, leb, Option, None, Some, Result, Ok, Err}
 use denote.Ref.{Bor}
 use Rattle.definitions.specs.Fields.{le}
 use Rattle.definitions.specs.Grammar as grammar
@@ -18,6 +18,10 @@ use Rattle.sheet.specs.declared.tables.Entry.TheVariants as entry
 use Rattle.sheet.specs.declared.tables.Field.{Field}
 use Rattle.sheet.specs.declared.tables.Field.TheVariants as field
 use Rattle.sheet.specs.declared.tables.Row.{Row}
+
+-- s has bytes from `at` to `stop`
+abbrev pub Extent : List ℕ → ℕ → ℕ → Type 0
+Extent s at stop = (at ≤ stop) × (stop ≤ length s)
 
 abbrev pub class_of : Class → grammar.Class
 class_of class.Contract = grammar.Class.contract

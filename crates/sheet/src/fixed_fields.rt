@@ -5,12 +5,12 @@ ghost use Rattle.definitions.specs.Fields.{le};
 ghost use Rattle.definitions.specs.Grammar.{up_to, ir_type, single, counted, listed};
 ghost use Rattle.definitions.specs.Records.{pick, size_of, ok_type, ok_item, ok_items, past, past_all};
 ghost use Rattle.ir.specs.Answers.{option_of};
-ghost use Rattle.sheet.specs.Tables.{entry_of, field_of, fields_of};
+ghost use Rattle.sheet.specs.Tables.{Extent, entry_of, field_of, fields_of};
 
 use crate::tables::{Entry, Field};
 use format::operators::BinOp;
 use format::program::ContextKind;
-use format::{COUNT, HIGHEST_ID, ID, TYPE, contract, program};
+use format::{COUNT, HIGHEST_ID, ID, TAG, TYPE, contract, program};
 use ir::{STRUCT_CODE, VOID_CODE};
 use reader::read;
 
@@ -28,8 +28,8 @@ fn type_valid(s: &[u8], at: usize) -> bool
     requires { at + 4 ≤ length s.now }
     ensures { result ≡ ok_type (le 2 s.now at) (le 2 s.now (at + 2)) }
 {
-    let tag = read(s, at, 2);
-    let name = read(s, at + 2, ID);
+    let tag = read(s, at, TAG);
+    let name = read(s, at + TAG, ID);
     if tag == STRUCT_CODE {
         return name <= HIGHEST_ID;
     }
@@ -100,7 +100,7 @@ fn past_bytes(at: usize, stop: usize, n: usize) -> Option<usize>
 // The same for a u16 of at most `most`, if it fits and is valid.
 #[tactic(auto, unfolding(definitions::specs::Records::past, definitions::specs::Records::ok_field, definitions::specs::Records::field_end, definitions::specs::Records::size_of, definitions::specs::Records::ok_item))]
 fn past_u16(s: &[u8], at: usize, stop: usize, most: usize) -> Option<usize>
-    requires { (at ≤ stop) × (stop ≤ length s.now) }
+    requires { Extent s.now at stop }
     ensures { option_of (λ p. p) result ≡ past (single (up_to most)) s.now stop at }
 {
     let next = past_bytes(at, stop, 2)?;
@@ -110,7 +110,7 @@ fn past_u16(s: &[u8], at: usize, stop: usize, most: usize) -> Option<usize>
 // The same for a type.
 #[tactic(auto, unfolding(definitions::specs::Records::past, definitions::specs::Records::ok_field, definitions::specs::Records::field_end, definitions::specs::Records::size_of, definitions::specs::Records::ok_item))]
 fn past_type(s: &[u8], at: usize, stop: usize) -> Option<usize>
-    requires { (at ≤ stop) × (stop ≤ length s.now) }
+    requires { Extent s.now at stop }
     ensures { option_of (λ p. p) result ≡ past (single ir_type) s.now stop at }
 {
     let next = past_bytes(at, stop, TYPE)?;
@@ -120,7 +120,7 @@ fn past_type(s: &[u8], at: usize, stop: usize) -> Option<usize>
 // The same for a count and so many entries.
 #[tactic(auto, unfolding(definitions::specs::Records::past, definitions::specs::Records::ok_field, definitions::specs::Records::field_end))]
 fn past_counted(s: &[u8], at: usize, stop: usize, entry: Entry) -> Option<usize>
-    requires { (at ≤ stop) × (stop ≤ length s.now) }
+    requires { Extent s.now at stop }
     ensures { option_of (λ p. p) result ≡ past (counted (entry_of entry)) s.now stop at }
 {
     let first = past_bytes(at, stop, COUNT)?;
@@ -132,7 +132,7 @@ fn past_counted(s: &[u8], at: usize, stop: usize, entry: Entry) -> Option<usize>
 // The same for entries to the record's end.
 #[tactic(auto, unfolding(definitions::specs::Records::past, definitions::specs::Records::ok_field, definitions::specs::Records::field_end))]
 fn past_listed(s: &[u8], at: usize, stop: usize, entry: Entry) -> Option<usize>
-    requires { (at ≤ stop) × (stop ≤ length s.now) }
+    requires { Extent s.now at stop }
     ensures { option_of (λ p. p) result ≡ past (listed (entry_of entry)) s.now stop at }
 {
     let room = stop - at;
@@ -146,7 +146,7 @@ fn past_listed(s: &[u8], at: usize, stop: usize, entry: Entry) -> Option<usize>
 // The same for any field.
 #[tactic(auto, unfolding(definitions::specs::Records::past, definitions::specs::Records::ok_field, definitions::specs::Records::field_end, definitions::specs::Records::size_of, definitions::specs::Records::ok_item))]
 fn past_field(s: &[u8], at: usize, stop: usize, field: Field) -> Option<usize>
-    requires { (at ≤ stop) × (stop ≤ length s.now) }
+    requires { Extent s.now at stop }
     ensures { option_of (λ p. p) result ≡ past (field_of field) s.now stop at }
 {
     match field {
@@ -166,7 +166,7 @@ fn past_field(s: &[u8], at: usize, stop: usize, field: Field) -> Option<usize>
 
 // The place after all fields.
 pub(crate) fn past_fields(s: &[u8], at: usize, stop: usize, fields: &[Field]) -> Option<usize>
-    requires { (at ≤ stop) × (stop ≤ length s.now) }
+    requires { Extent s.now at stop }
     ensures { option_of (λ p. p) result ≡ past_all (fields_of fields.now) s.now stop at }
 {
     let mut place = at;

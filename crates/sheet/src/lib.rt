@@ -2,12 +2,14 @@
 // limits (4) of a contract sheet. 3, 4 and 40 have a place.
 #![tactic(auto)]
 
+mod contract_rows; // a row for each record kind of a contract sheet
 pub mod errors; // why a sheet is refused
 mod fixed_fields; // the fixed fields of a record
 mod limits; // refusal 4
 pub mod places; // where things stand in a record that passed
+mod program_rows; // the same of a program sheet
 mod records; // refusals 3 and 40
-mod tables; // a row for each record kind
+mod tables; // what a row says, and the row of each record kind
 
 ghost use Rattle.std.specs.Prelude.{◌≡◌};
 ghost use Rattle.definitions.specs.Answers.{check_contract};

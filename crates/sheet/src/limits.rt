@@ -2,13 +2,13 @@
 ghost use Rattle.std.specs.Prelude.{◌≡◌, ◌≤◌, ◌<◌, length};
 ghost use Rattle.definitions.specs.Records.{read_records};
 ghost use Rattle.definitions.specs.ContractSheet.{count_trees, none_before, limit_trees};
-ghost use Rattle.format.specs.Kinds.{number_of};
+ghost use Rattle.format.specs.Kinds.{kind_number};
 ghost use Rattle.sheet.specs.Forms.{limits_of};
 ghost use Rattle.sheet.specs.Limits.{counts_of, total, and_kind, too_many, too_wide};
 ghost use Rattle.sheet.specs.Passed.{Passed, Standing, values_at, children_of};
 
 use crate::OverLimit;
-use crate::places::{body_of, count, kind_of};
+use crate::places::{body_of, count, record_kind};
 use format::contract::{
     AFTER_NAME, MOST_ARGUMENTS, MOST_DEPTH, MOST_FIELDS, MOST_FUNCTIONS, MOST_PARAMS, MOST_STORAGE,
     MOST_STRUCTS, PARAM, PARAM_COUNT,
@@ -35,7 +35,7 @@ impl Counts {
     // Whether a record of this kind is one too many.
     #[tactic(auto, unfolding(crate::specs::Limits::too_many))]
     fn too_many(&self, kind: Kind) -> bool
-        ensures { result ≡ too_many (number_of kind) self.now.storage self.now.structs self.now.functions }
+        ensures { result ≡ too_many (kind_number kind) self.now.storage self.now.structs self.now.functions }
     {
         match kind {
             Kind::Item(Item::Storage) => MOST_STORAGE <= self.storage,
@@ -48,7 +48,7 @@ impl Counts {
     // Counts a record of this kind.
     fn add(&mut self, kind: Kind)
         requires { total (counts_of self.old) < 18446744073709551615 }
-        ensures { counts_of self.new ≡ and_kind (number_of kind) (counts_of self.old) }
+        ensures { counts_of self.new ≡ and_kind (kind_number kind) (counts_of self.old) }
     {
         match kind {
             Kind::Item(Item::Storage) => self.storage += 1,
@@ -62,14 +62,15 @@ impl Counts {
 // Whether a record has over 64 fields, over 16 parameters or over 16 arguments.
 #[tactic(auto, unfolding(crate::specs::Limits::too_wide))]
 fn too_wide(s: &[u8], at: usize, stop: usize, kind: Kind) -> bool
-    requires { Standing s.now at stop (number_of kind) }
-    ensures { result ≡ too_wide (number_of kind) (values_at s.now at) (count_trees (children_of s.now at)) }
+    requires { Standing s.now at stop (kind_number kind) }
+    ensures { result ≡ too_wide (kind_number kind) (values_at s.now at) (count_trees (children_of s.now at)) }
 {
     match kind {
         Kind::Item(Item::Struct) => MOST_FIELDS < (stop - (at + AFTER_NAME)) / PARAM,
         Kind::Item(Item::Function) => MOST_PARAMS < read(s, at + PARAM_COUNT, COUNT),
-        Kind::Stmt(Stmt::Emit) => MOST_ARGUMENTS < count(s, at + AFTER_NAME, stop),
-        Kind::Expr(Expr::Call) => MOST_ARGUMENTS < count(s, at + AFTER_NAME, stop),
+        Kind::Stmt(Stmt::Emit) | Kind::Expr(Expr::Call) => {
+            MOST_ARGUMENTS < count(s, at + AFTER_NAME, stop)
+        }
         _ => false,
     }
 }
@@ -83,7 +84,7 @@ pub(crate) fn limits(s: &[u8], at: usize, end: usize, depth: usize) -> Result<()
     let mut before = Counts::NONE;
     while place < end {
         let stop = place + read(s, place, LENGTH_BYTES);
-        let kind = kind_of(s, place, stop);
+        let kind = record_kind(s, place, stop);
         if MOST_DEPTH < depth || before.too_many(kind) || too_wide(s, place, stop, kind) {
             return Err(OverLimit(place));
         }

@@ -4,7 +4,7 @@ ghost use Rattle.std.specs.Prelude.{◌≡◌, ◌+◌, ◌≤◌, length};
 ghost use Rattle.definitions.specs.Fields.{le};
 ghost use Rattle.definitions.specs.Records.{field_end, opt_from, read_records};
 ghost use Rattle.definitions.specs.ContractSheet.{count_trees};
-ghost use Rattle.format.specs.Kinds.{number_of};
+ghost use Rattle.format.specs.Kinds.{kind_number};
 ghost use Rattle.ir.specs.Answers.{option_of};
 ghost use Rattle.sheet.specs.Passed.{Passed, Standing, record_kind, body_of};
 ghost use Rattle.sheet.specs.Tables.{field_of};
@@ -33,16 +33,16 @@ fn field_end(s: &[u8], at: usize, stop: usize, field: Field) -> usize
 }
 
 // The kind of a record.
-pub(crate) fn kind_of(s: &[u8], at: usize, stop: usize) -> Kind
+pub(crate) fn record_kind(s: &[u8], at: usize, stop: usize) -> Kind
     requires { Standing s.now at stop (record_kind s.now at) }
-    ensures { number_of result ≡ record_kind s.now at }
+    ensures { kind_number result ≡ record_kind s.now at }
 {
     Kind::try_from(read_u16(s, at + KIND)).unwrap()
 }
 
 // Where the children of a record start.
 pub(crate) fn body_of(s: &[u8], at: usize, stop: usize, kind: Kind) -> usize
-    requires { Standing s.now at stop (number_of kind) }
+    requires { Standing s.now at stop (kind_number kind) }
     ensures { result ≡ body_of s.now at }
 {
     let mut place = at + HEAD;

@@ -4,7 +4,7 @@ ghost use Rattle.std.specs.Prelude.{◌≡◌, ◌≤◌, ◌<◌, length, IfErr
 ghost use Rattle.definitions.specs.Records.{may_end, after, check_records};
 ghost use Rattle.definitions.specs.Records as records;
 ghost use Rattle.sheet.specs.Forms.{form_of};
-ghost use Rattle.sheet.specs.Tables.{class_of, pattern_of, next_of, row_found, row_at, start_of};
+ghost use Rattle.sheet.specs.Tables.{Extent, class_of, pattern_of, next_of, row_found, row_at, start_of};
 
 use crate::Malformed;
 use crate::fixed_fields::past_fields;
@@ -51,9 +51,9 @@ fn may_end(pattern: &[Child]) -> bool
 }
 
 // The row of the record at a place, if its length fits what is left of its parent.
-#[tactic(auto, using(crate::proofs::Rows::unknown), unfolding(crate::specs::Tables::row_at))]
+#[tactic(auto, unfolding(crate::specs::Tables::row_at))]
 fn row_at(s: &[u8], at: usize, end: usize) -> Option<&'static Row>
-    requires { (at ≤ end) × (end ≤ length s.now) }
+    requires { Extent s.now at end }
     ensures { row_found result ≡ row_at s.now at end }
 {
     let room = end - at;
@@ -98,7 +98,7 @@ fn start_at<'a>(
 // fault is the lowest. A record takes 6 bytes or more, so the bytes left fall with each call, to any depth. The loop counts no index: it
 // steps by the length that a record has.
 pub(crate) fn records(s: &[u8], at: usize, end: usize, pattern: &[Child]) -> Result<(), Malformed>
-    requires { (at ≤ end) × (end ≤ length s.now) }
+    requires { Extent s.now at end }
     ensures { form_of result ≡ check_records s.now at end (pattern_of pattern.now) }
 {
     let mut place = at;

@@ -22,7 +22,7 @@ use Rattle.program_nodes.specs.declared.instr.Instruction.{Instruction}
 use Rattle.program_nodes.specs.declared.instr.Instruction.TheVariants as instr
 use Rattle.program_nodes.specs.declared.term.Terminator.{Terminator}
 use Rattle.program_nodes.specs.declared.term.Terminator.TheVariants as term
-use Rattle.verify_state.specs.Errors.{Outcome, error_of, checked_of, named}
+use Rattle.verify_state.specs.Errors.{Outcome, error_of, checked_of, in_function}
 use Rattle.verify_state.specs.Promises.{Says, Checks}
 use Rattle.verify_state.specs.declared.VerifyError.{VerifyError as Fault}
 use Rattle.verify_refs.specs.Promises.{Finds, function_check, local_check, target_check, operands_check, condition_check, return_check, instr_check, term_check}
@@ -30,7 +30,7 @@ use Rattle.verify_state.proofs.Steps.{Leads, lead_over, lead_failed, lead_passed
 use Rattle.verify_refs.proofs.Values.{value_failed, value_passed}
 
 -- ONE VALUE as a list of values
-only : {A : Type 0} (n : ℕ) (r : Checked A) → named n (r >> ok (tt {0})) ≡ named n r
+only : {A : Type 0} (n : ℕ) (r : Checked A) → in_function n (r >> ok (tt {0})) ≡ in_function n r
 only n (err x) = refl
 only n (ok a) = refl
 
@@ -98,7 +98,7 @@ module _ {f : Function} {i : Instruction} {first rest : Defined → Checked Done
   pub second : {r : Outcome} → Checks f (ok tt) first → Checks f r rest → Gives f i r
   second h g = lead_over (lead_passed first rest P.leads h) g
 
-two_values : {A : Type 0} (n : ℕ) (a : Checked A) (b : Checked Done) → named n ((a >> ok (tt {0})) >> b) ≡ named n (a >> b)
+two_values : {A : Type 0} (n : ℕ) (a : Checked A) (b : Checked Done) → in_function n ((a >> ok (tt {0})) >> b) ≡ in_function n (a >> b)
 two_values n (err x) b = refl
 two_values n (ok a) b = refl
 
@@ -120,7 +120,7 @@ module _ (f : Function) {i : Instruction} where
   call e = rw e (record { leads = record { same = λ ds S. refl } })
 
 -- A BRANCH on v to b or e
-grouped : {A : Type 0} (n : ℕ) (r : Checked A) (k : A → Checked Done) (c : Checked Done) → named n ((r >>= k) >> c) ≡ named n (r >>= λ (a : A). k a >> c)
+grouped : {A : Type 0} (n : ℕ) (r : Checked A) (k : A → Checked Done) (c : Checked Done) → in_function n ((r >>= k) >> c) ≡ in_function n (r >>= λ (a : A). k a >> c)
 grouped n (err x) k c = refl
 grouped n (ok a) k c = refl
 

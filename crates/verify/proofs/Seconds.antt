@@ -5,24 +5,18 @@ use mathlib.Core.Option.{Option, none, some}
 use Prim.Native.Nat.{ℕ, suc, ◌+◌, ◌-◌}
 use native.Mathlib.Omega.{arith}
 use lib.ListN.{length}
-use Rattle.std.specs.Prelude.{Some}
 use Rattle.definitions.specs.Result.{err, ok, ◌>>=◌, ◌>>◌, ok_or_else, map_err, Done}
 use Rattle.definitions.specs.Ir.{Instruction, Terminator, InstrNode, BasicBlock, IrFunction}
 use Rattle.definitions.specs.Records.{read_records}
 use Rattle.definitions.specs.Verify.{VerifyError, Checked, Defined, define_params, define_blocks, verify_instrs, verify_block, verify_blocks, verify_function, verify_functions}
-use Rattle.definitions.proofs.Results.{err_ok}
 use Rattle.program_nodes.specs.Offsets.{first_param_at}
 use Rattle.program_nodes.specs.Definitions.{Definition, blocks_definitions}
-use Rattle.program_nodes.specs.Nodes.{ir_of, ids_of_all, block_in, params_of, definitions_of, FirstInstr, FirstTerm, TakesRecord}
+use Rattle.program_nodes.specs.Nodes.{ir_of, ids_of_all, block_in, params_of, definitions_of}
+use Rattle.program_nodes.specs.declared.program.Program.{Program}
 use Rattle.program_nodes.specs.declared.program.Function.{Function}
 use Rattle.program_nodes.specs.declared.block.Block.{Block}
-use Rattle.program_nodes.specs.declared.block.Records.{Records}
-use Rattle.program_nodes.specs.declared.block.Record.{Record}
-use Rattle.program_nodes.specs.declared.block.Record.TheVariants as record'
-use Rattle.program_nodes.specs.declared.instr.Instr.{Instr}
-use Rattle.program_nodes.specs.declared.term.Term.{Term}
 use Rattle.program_nodes.proofs.Facts.{function_is}
-use Rattle.verify_state.specs.Errors.{Outcome, named}
+use Rattle.verify_state.specs.Errors.{Outcome, in_function}
 use Rattle.verify_state.specs.Promises.{SameTable, Says, Checks}
 use Rattle.verify_define.specs.Promises.{DefinesBlocks, DefinesParams}
 use Rattle.verify_refs.specs.Promises.{instr_check, term_check}
@@ -39,7 +33,7 @@ pub whole_block : {f : Function} (b : Block) {ns : List InstrNode} {t : Option T
 unfolding verify_block
 whole_block b e g = rw (e, g) (record { same = λ ds S. refl })
 
-regroup : {A B C : Type 0} (n : ℕ) (a : Checked A) (b : Checked B) (c : Checked C) → named n (a >> (b >> c)) ≡ named n ((a >> b) >> c)
+regroup : {A B C : Type 0} (n : ℕ) (a : Checked A) (b : Checked B) (c : Checked C) → in_function n (a >> (b >> c)) ≡ in_function n ((a >> b) >> c)
 regroup n (err x) b c = refl
 regroup n (ok a) b c = refl
 
@@ -62,12 +56,6 @@ module _ {A : Type 0} {f : Function} {whole : Defined → Checked A} (id : ℕ) 
   pub missing : {i : ℕ} → i ≡ id → ns ≡ [] → t ≡ none → Checks f (err (f.name.0, VerifyError.MissingTerminator i)) whole
   unfolding verify_instrs
   missing z e g = record { says = λ ds S. rw (← z, e, g) at (L.same ds S) }
-
-pub an_instr : {old new : Records} {r : Record} {i : Instr} → TakesRecord old new (Some r) → r ≡ record'.Instr i → FirstInstr old new i
-an_instr h e = rw e at h
-
-pub a_term : {old : Records} (new : Records) {r : Record} {t : Term} → TakesRecord old new (Some r) → r ≡ record'.Term t → FirstTerm old t
-a_term new h e = rw e at h
 
 -- THE BLOCKS bs
 abbrev pub blocks_left : Function → List BasicBlock → Defined → Checked Done
@@ -119,8 +107,8 @@ module _ (f : Function) where
     pub blocks_failed : {x : ℕ × VerifyError} → DefinesBlocks f (err x) → Says f (err x) (verify_function (ir_of f) (ids_of_all f.program))
     unfolding verify_function
     blocks_failed {x} D =
-        let e : err x ≡ named f.name.0 (define_blocks (ir_of f).blocks params.0 >>= blocks_check f) = failed f.name.0 (define_blocks (ir_of f).blocks params.0) (blocks_check f) (blocks_say D) in
-        e ∙ sym (ap (λ (r : Checked Defined). named f.name.0 (r >>= λ (ds : Defined). define_blocks (ir_of f).blocks ds >>= blocks_check f)) params.1)
+        let e : err x ≡ in_function f.name.0 (define_blocks (ir_of f).blocks params.0 >>= blocks_check f) = failed f.name.0 (define_blocks (ir_of f).blocks params.0) (blocks_check f) (blocks_say D) in
+        e ∙ sym (ap (λ (r : Checked Defined). in_function f.name.0 (r >>= λ (ds : Defined). define_blocks (ir_of f).blocks ds >>= blocks_check f)) params.1)
 
     pub function_says : {r : Outcome} → DefinesBlocks f (ok tt) → Checks f r (blocks_check f) → Says f r (verify_function (ir_of f) (ids_of_all f.program))
     unfolding verify_function definitions_of
@@ -128,35 +116,38 @@ module _ (f : Function) where
         let b = passed f.name.0 (define_blocks (ir_of f).blocks params.0) (blocks_say D) in
         let S : SameTable b.0 (definitions_of f) = blocks_grow (suc (f.stop - f.first)) (omega arith) (function_is f).blocks params.0 b.0 (params_of f) params_same b.1 in
         h.says b.0 S
-        ∙ sym (ap (λ (r : Checked Defined). named f.name.0 (r >>= λ (ds : Defined). define_blocks (ir_of f).blocks ds >>= blocks_check f)) params.1
-        ∙ ap (λ (r : Checked Defined). named f.name.0 (r >>= blocks_check f)) b.1)
+        ∙ sym (ap (λ (r : Checked Defined). in_function f.name.0 (r >>= λ (ds : Defined). define_blocks (ir_of f).blocks ds >>= blocks_check f)) params.1
+        ∙ ap (λ (r : Checked Defined). in_function f.name.0 (r >>= blocks_check f)) b.1)
 
 -- THE FUNCTIONS fs, of which f is the first
 stops : {x : ℕ × VerifyError} (r k : Outcome) → err x ≡ r → err x ≡ (r >> k)
 stops (err y) k e = e
-stops (ok a) k e = absurd (err_ok e)
+stops (ok a) k e = cc
 
 goes_past : (r k : Outcome) → ok tt ≡ r → (r >> k) ≡ k
-goes_past (err y) k e = absurd (err_ok (sym e))
+goes_past (err y) k e = cc
 goes_past (ok a) k e = refl
 
-module _ (f : Function) {fs gs : List IrFunction} {ids : List ℕ} (e : fs ≡ ir_of f ∷ gs) (s : ids_of_all f.program ≡ ids) {goal : Outcome} (L : verify_functions fs ids ≡ goal) where
-  this_function : Outcome
-  this_function = map_err (λ (x : VerifyError). ((ir_of f).name, x)) (verify_function (ir_of f) ids)
+module _ (f : Function) (p : Program) {fs gs : List IrFunction} (e : fs ≡ ir_of f ∷ gs) (s : f.program.sheet.now ≡ p.sheet.now) {goal : Outcome} (L : verify_functions fs (ids_of_all p) ≡ goal) where
+  same_ids : ids_of_all f.program ≡ ids_of_all p
+  same_ids = rw s
 
-  unrolled : (this_function >> verify_functions gs ids) ≡ goal
+  this_function : Outcome
+  this_function = map_err (λ (x : VerifyError). ((ir_of f).name, x)) (verify_function (ir_of f) (ids_of_all p))
+
+  unrolled : (this_function >> verify_functions gs (ids_of_all p)) ≡ goal
   unfolding verify_functions this_function
   unrolled = rw e at L
 
   this_says : {r : Outcome} → Says f r (verify_function (ir_of f) (ids_of_all f.program)) → r ≡ this_function
   unfolding this_function
-  this_says h = (rw s at h) ∙ (ap (λ (n : ℕ). named n (verify_function (ir_of f) ids)) (function_is f).name_is ∙ sym (mapped (ir_of f).name (verify_function (ir_of f) ids)))
+  this_says h = (rw same_ids at h) ∙ (ap (λ (n : ℕ). in_function n (verify_function (ir_of f) (ids_of_all p))) (function_is f).name_is ∙ sym (mapped (ir_of f).name (verify_function (ir_of f) (ids_of_all p))))
 
   pub function_failed : {x : ℕ × VerifyError} → Says f (err x) (verify_function (ir_of f) (ids_of_all f.program)) → err x ≡ goal
-  function_failed h = stops this_function (verify_functions gs ids) (this_says h) ∙ unrolled
+  function_failed h = stops this_function (verify_functions gs (ids_of_all p)) (this_says h) ∙ unrolled
 
-  pub function_passed : Says f (ok tt) (verify_function (ir_of f) (ids_of_all f.program)) → verify_functions gs ids ≡ goal
-  function_passed h = sym (goes_past this_function (verify_functions gs ids) (this_says h)) ∙ unrolled
+  pub function_passed : Says f (ok tt) (verify_function (ir_of f) (ids_of_all f.program)) → verify_functions gs (ids_of_all p) ≡ goal
+  function_passed h = sym (goes_past this_function (verify_functions gs (ids_of_all p)) (this_says h)) ∙ unrolled
 
 pub functions_over : {fs : List IrFunction} (ids : List ℕ) {goal : Outcome} → fs ≡ [] → verify_functions fs ids ≡ goal → ok tt ≡ goal
 unfolding verify_functions

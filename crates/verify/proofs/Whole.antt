@@ -1,16 +1,18 @@
 -- The answer to a sheet: too long, malformed, or what the functions give. Assumes nothing.
-use mathlib.Core.Path.{◌≡◌, ap, sym}
+use mathlib.Core.Path.{◌≡◌, ap}
 use mathlib.Core.List.{List, [], ◌∷◌}
 use Prim.Native.Nat.{ℕ, ◌≤◌, ◌<◌}
 use lib.ListN.{length}
 use borrow.Author.Tests.{le-leb, lt-leb}
-use Rattle.definitions.specs.Result.{Result, err, ok, Done}
+use Rattle.definitions.specs.Result.{err, ok}
 use Rattle.definitions.specs.Ir.{IrFunction}
 use Rattle.definitions.specs.Records.{Good, Bad}
 use Rattle.definitions.specs.ProgramSheet.{read_program, refusal40}
 use Rattle.definitions.specs.Verify.{VerifyError, function_ids, verify_functions, verify_program}
 use Rattle.definitions.specs.Answers.{refusal, verify_refusal, verify_sheet}
-use Rattle.program_nodes.specs.Positions.{functions_here, functions_of, ids_of_all}
+use Rattle.program_nodes.specs.Positions.{functions_here}
+use Rattle.program_nodes.specs.Nodes.{functions_of, ids_of_all}
+use Rattle.program_nodes.specs.declared.program.Program.{Program}
 use Rattle.program_nodes.proofs.FunctionSteps.{program_at}
 
 module _ (s : List ℕ) where
@@ -23,18 +25,18 @@ module _ (s : List ℕ) where
     unfolding verify_sheet
     malformed p e = rw (le-leb (length s) 32768 h, ← e)
 
-    module _ (e : Good ≡ refusal40 s) where
-      abbrev answer : Result (ℕ × VerifyError) Done
-      answer = verify_functions (functions_of s) (ids_of_all s)
-
-      program_is : verify_program (read_program s) ≡ answer
+    module _ (p : Program) (same : p.sheet.now ≡ s) where
+      program_is : verify_program (read_program s) ≡ verify_functions (functions_of p) (ids_of_all p)
       unfolding verify_program functions_here
-      program_is = ap (λ (fs : List IrFunction). verify_functions fs (function_ids fs)) (program_at s (sym e)).functions
+      program_is = rw (← same) (ap (λ (fs : List IrFunction). verify_functions fs (function_ids fs)) (program_at p.sheet.now p.passed).functions)
 
-      pub accepted : {t : List ℕ} → t ≡ s → ok tt ≡ verify_functions (functions_of t) (ids_of_all t) → ok [] ≡ verify_sheet s
-      unfolding verify_sheet
-      accepted z f = rw (le-leb (length s) 32768 h, ← e, program_is, ← (rw z at f))
+      form_is : refusal40 s ≡ Good
+      form_is = rw same at p.passed
 
-      pub refused : {t : List ℕ} (x : ℕ × VerifyError) → t ≡ s → err x ≡ verify_functions (functions_of t) (ids_of_all t) → err (verify_refusal x) ≡ verify_sheet s
+      pub accepted : ok tt ≡ verify_functions (functions_of p) (ids_of_all p) → ok [] ≡ verify_sheet s
       unfolding verify_sheet
-      refused x z f = rw (le-leb (length s) 32768 h, ← e, program_is, ← (rw z at f))
+      accepted f = rw (le-leb (length s) 32768 h, form_is, program_is, ← f)
+
+      pub refused : {x : ℕ × VerifyError} → err x ≡ verify_functions (functions_of p) (ids_of_all p) → err (verify_refusal x) ≡ verify_sheet s
+      unfolding verify_sheet
+      refused f = rw (le-leb (length s) 32768 h, form_is, program_is, ← f)

@@ -1,11 +1,10 @@
 -- The first pass: what is left of a part's definitions, with the table so far. Assumes nothing.
 use mathlib.Core.Path.{◌≡◌, refl, ap, sym, ◌∙◌}
-use mathlib.Core.Bool.{Bool, true, false}
+use mathlib.Core.Bool.{true}
 use mathlib.Core.List.{List, [], ◌∷◌, ◌++◌, append_assoc}
 use mathlib.Core.Option.{Option, none, some}
 use Prim.Native.Nat.{ℕ, suc, ◌+◌, ◌-◌}
 use native.Mathlib.Omega.{arith}
-use Rattle.std.specs.Prelude.{Some}
 use Rattle.program_nodes.specs.Positions.{kind_here}
 use Rattle.definitions.specs.Result.{err, ok, ◌>>=◌}
 use Rattle.definitions.specs.Ir.{IrType, Instruction, InstrNode, BasicBlock, result_type}
@@ -13,18 +12,13 @@ use Rattle.definitions.specs.InstrTable.{kind_of}
 use Rattle.definitions.specs.Verify.{VerifyError, Checked, Defined, insert, define_params, define_result, define_results, define_blocks}
 use Rattle.program_nodes.specs.Offsets.{records_at}
 use Rattle.program_nodes.specs.Definitions.{Definition, param_definition, instr_definition, result_definition, first_definition, is_at}
-use Rattle.program_nodes.specs.Nodes.{instr_in, block_in, block_definitions_of, definitions_of, FirstInstr, FirstTerm, TakesRecord}
-use Rattle.program_nodes.specs.declared.block.Records.{Records}
-use Rattle.program_nodes.specs.declared.block.Record.{Record}
-use Rattle.program_nodes.specs.declared.block.Record.TheVariants as record'
+use Rattle.program_nodes.specs.Nodes.{instr_in, block_in, block_definitions_of, definitions_of}
 use Rattle.program_nodes.specs.declared.instr.Instr.{Instr}
-use Rattle.program_nodes.specs.declared.term.Term.{Term}
-use Rattle.program_nodes.proofs.Facts.{instr_to}
+use Rattle.program_nodes.proofs.Facts.{instr_to, block_records}
 use Rattle.program_nodes.specs.declared.program.Function.{Function}
 use Rattle.program_nodes.specs.declared.block.Block.{Block}
-use Rattle.program_nodes.proofs.Stand.{kept}
 use Rattle.program_nodes.proofs.Ascending.{ascends}
-use Rattle.verify_state.specs.Errors.{Outcome, named}
+use Rattle.verify_state.specs.Errors.{Outcome, in_function}
 use Rattle.verify_state.specs.Promises.{SameTable}
 use Rattle.verify_define.specs.Promises.{Defines}
 use Rattle.verify_state.proofs.Steps.{failed, passed, goes_on}
@@ -36,10 +30,10 @@ record So (f : Function) (rest after : List Definition) (left : Defined → Chec
   before : List Definition
   same : SameTable table before
   split : definitions_of f ≡ before ++ (rest ++ after)
-  goes : named f.name.0 (left table) ≡ goal
+  goes : in_function f.name.0 (left table) ≡ goal
 
 pub record Rest (f : Function) (own : List Definition) (whole : Defined → Checked Defined) (rest : List Definition) (left : Defined → Checked Defined) : Type 0 where
-  so : (ds : Defined) (before after : List Definition) → SameTable ds before → definitions_of f ≡ before ++ (own ++ after) → So f rest after left (named f.name.0 (whole ds))
+  so : (ds : Defined) (before after : List Definition) → SameTable ds before → definitions_of f ≡ before ++ (own ++ after) → So f rest after left (in_function f.name.0 (whole ds))
 
 all_left : {f : Function} {own : List Definition} {whole : Defined → Checked Defined} → Rest f own whole own whole
 all_left = record { so = λ ds before after S e. record { table = ds; before = before; same = S; split = e; goes = refl } }
@@ -156,17 +150,8 @@ module _ {f : Function} {own ds : List Definition} {whole : Defined → Checked 
   pub block_passed : Defines f (ok tt) (block_definitions_of b) (define_results (block_in b).instrs) → Rest f own whole es (define_blocks cs)
   block_passed D =
       first_passed (block_definitions_of b) es (define_results (block_in b).instrs) (define_blocks cs) from_block
-      (block_grows (suc (b.stop - (b.at + records_at))) (omega arith) (kept b.here.0.0)) D
+      (block_grows (suc (b.stop - (b.at + records_at))) (omega arith) (block_records b)) D
 
--- WHAT THE CODE TOLD
-pub false_true : {b : Bool} → b ≡ false → b ≡ true → ⊥
-false_true e f = let z : ◌≡◌ {A = Bool} false true = sym e ∙ f in let y : ◌≡◌ {A = ℕ} 0 1 = cc in omega arith
-
+-- the kind of an instruction, by its number
 pub kind_is : (i : Instr) → kind_here i.sheet.now i.at ≡ kind_of (instr_in i)
 kind_is i = sym ((instr_to i).place.kind_is i.stop)
-
-pub an_instr : {old new : Records} {r : Record} {i : Instr} → TakesRecord old new (Some r) → r ≡ record'.Instr i → FirstInstr old new i
-an_instr h e = rw e at h
-
-pub a_term : {old : Records} (new : Records) {r : Record} {t : Term} → TakesRecord old new (Some r) → r ≡ record'.Term t → FirstTerm old t
-a_term new h e = rw e at h

@@ -26,10 +26,10 @@ agree_none : (o : Option Definition) (d : Option IrType) → Agree o d → d ≡
 agree_none none none h e = refl
 agree_none (some x) none h e = absurd h
 agree_none none (some t) h e = refl
-agree_none (some x) (some t) h e = absurd (let z : ◌≡◌ {A = ℕ} 0 1 = cc in omega arith)
+agree_none (some x) (some t) h e = cc
 
 agree_some : (o : Option Definition) (d : Option IrType) (t : IrType) → Agree o d → d ≡ some t → (x : Definition) × (o ≡ some x)
-agree_some none none t h e = absurd (let z : ◌≡◌ {A = ℕ} 0 1 = cc in omega arith)
+agree_some none none t h e = cc
 agree_some (some x) d t h e = (x, refl)
 agree_some none (some u) t h e = absurd h
 

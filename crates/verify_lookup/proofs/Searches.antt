@@ -5,10 +5,10 @@ use mathlib.Core.List.{List, [], ◌∷◌, ◌++◌}
 use mathlib.Core.Option as maths
 use mathlib.Core.Option.{none, some}
 use Prim.Native.Nat.{ℕ}
-use native.Mathlib.Omega.{arith}
 use lib.Dec.{eqb}
 use borrow.Author.Tests.{eqb-true, eq-eqb, ne_eqb}
 use Rattle.std.specs.Prelude.{Option, None, Some}
+use Rattle.std.proofs.lemmas.Bool.{both_ways}
 use Rattle.std.specs.Option.{is_some}
 use Rattle.definitions.specs.Ir.{Instruction, BasicBlock, IrFunction, find, contains}
 use Rattle.definitions.specs.Bench.{function_with}
@@ -16,12 +16,7 @@ use Rattle.definitions.specs.Verify.{block_ids, function_ids}
 use Rattle.definitions.proofs.Results.{by_test}
 use Rattle.ir.specs.Answers.{option_of}
 use Rattle.program_nodes.specs.Definitions.{Definition, instr_definition, result_definition, first_definition}
-use Rattle.program_nodes.specs.Nodes.{result_is, FirstInstr, FirstTerm, TakesRecord}
-use Rattle.program_nodes.specs.declared.block.Records.{Records}
-use Rattle.program_nodes.specs.declared.block.Record.{Record}
-use Rattle.program_nodes.specs.declared.block.Record.TheVariants as record'
-use Rattle.program_nodes.specs.declared.instr.Instr.{Instr}
-use Rattle.program_nodes.specs.declared.term.Term.{Term}
+use Rattle.program_nodes.specs.Nodes.{result_is}
 use Rattle.program_nodes.proofs.Definitions.{first_append}
 
 -- DEFINITIONS: the front one has the value, or has another
@@ -48,22 +43,12 @@ instr_miss q v none i es e z = rw e
 instr_miss q v (some x) i es e z = rw (e, ne_eqb x v (λ w. z (ap some (sym w))))
 
 -- whether a result is the value, as the code asks
-false_true : {b : Bool} → b ≡ false → b ≡ true → ⊥
-false_true e f = let z : ◌≡◌ {A = Bool} false true = sym e ∙ f in let y : ◌≡◌ {A = ℕ} 0 1 = cc in omega arith
-
 pub is_value : (v : ℕ) (r : maths.Option ℕ) {b : Bool} → b ≡ result_is v r → b ≡ true → some v ≡ r
-is_value v none e z = absurd (false_true e z)
+is_value v none e z = cc
 is_value v (some x) e z = ap some (sym (eqb-true x v (sym e ∙ z)))
 
 pub no_value : (v : ℕ) (r : maths.Option ℕ) {b : Bool} → b ≡ result_is v r → b ≡ false → some v ≡ r → ⊥
-no_value v r e z w = false_true z (e ∙ rw (← w) (eq-eqb v v refl))
-
--- a record that a match told
-pub an_instr : {old new : Records} {r : Record} {i : Instr} → TakesRecord old new (Some r) → r ≡ record'.Instr i → FirstInstr old new i
-an_instr h e = rw e at h
-
-pub a_term : {old : Records} (new : Records) {r : Record} {t : Term} → TakesRecord old new (Some r) → r ≡ record'.Term t → FirstTerm old t
-a_term new h e = rw e at h
+no_value v r e z w = both_ways _ z (e ∙ rw (← w) (eq-eqb v v refl))
 
 -- two lists, one after the other
 pub in_first : (v : ℕ) (a b : List Definition) {d : Definition} → some d ≡ first_definition v a → some d ≡ first_definition v (a ++ b)

@@ -1,4 +1,4 @@
-// The verifier's answer as numbers: one place has the number of each case.
+// The verifier's answer as the numbers of document 01, for C to read: one place has the number of each case.
 #![tactic(auto)]
 
 ghost use Rattle.std.specs.Prelude.{◌≡◌};

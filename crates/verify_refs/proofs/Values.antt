@@ -1,21 +1,20 @@
 -- References to values: defined or not, and of what type. Assumes nothing.
-use mathlib.Core.Path.{◌≡◌, refl, ap, sym}
+use mathlib.Core.Path.{◌≡◌, refl}
 use mathlib.Core.List.{List, [], ◌∷◌}
 use mathlib.Core.Option.{Option, none, some}
 use Prim.Native.Nat.{ℕ}
 use Rattle.std.specs.Prelude.{Option as Option', None, Some, Ok, Err}
 use Rattle.std.specs.Option.{ok_or}
-use Rattle.definitions.specs.Result.{Result, err, ok, ◌>>◌, map_err}
+use Rattle.definitions.specs.Result.{err, ok, ◌>>◌, map_err}
 use Rattle.definitions.specs.Ir as ir
 use Rattle.definitions.specs.Verify.{VerifyError, Checked, Defined, defined_type, check_value_ref, check_value_refs}
-use Rattle.definitions.proofs.Results.{err_ok, ok_inj}
 use Rattle.ir.specs.Types.{as_type}
 use Rattle.ir.specs.Answers.{option_of}
 use Rattle.ir.specs.declared.IrType.{IrType}
 use Rattle.program_nodes.specs.Definitions.{Definition, type_of_definition, first_type}
 use Rattle.program_nodes.specs.Nodes.{definitions_of}
 use Rattle.program_nodes.specs.declared.program.Function.{Function}
-use Rattle.verify_state.specs.Errors.{error_of, named}
+use Rattle.verify_state.specs.Errors.{error_of, in_function}
 use Rattle.verify_state.specs.Promises.{Agree, SameTable, Checks}
 use Rattle.verify_state.specs.declared.VerifyError.{VerifyError as Fault}
 use Rattle.verify_state.proofs.Steps.{Leads, lead_over, lead_failed, lead_passed}
@@ -43,16 +42,13 @@ module _ (f : Function) (v : ℕ) where
 abbrev pair : ℕ → VerifyError → ℕ × VerifyError
 pair n y = (n, y)
 
-err_inj : {A : Type 0} {x y : ℕ × VerifyError} → ◌≡◌ {A = Result (ℕ × VerifyError) A} (err x) (err y) → x ≡ y
-err_inj e = cc
-
-found_err : {A : Type 0} {x : ℕ × VerifyError} (n : ℕ) (r : Checked A) → err x ≡ map_err (λ (y : VerifyError). pair n y) r → err x ≡ named n r
-found_err n (err y) e = ap (λ (z : ℕ × VerifyError). err z) (err_inj e)
-found_err n (ok a) e = absurd (err_ok e)
+found_err : {A : Type 0} {x : ℕ × VerifyError} (n : ℕ) (r : Checked A) → err x ≡ map_err (λ (y : VerifyError). pair n y) r → err x ≡ in_function n r
+found_err n (err y) e = cc
+found_err n (ok a) e = cc
 
 found_ok : {A : Type 0} {a : A} (n : ℕ) (r : Checked A) → ok a ≡ map_err (λ (y : VerifyError). pair n y) r → r ≡ ok a
-found_ok n (err y) e = absurd (err_ok (sym e))
-found_ok n (ok b) e = ap (λ x. ok x) (sym (ok_inj e))
+found_ok n (err y) e = cc
+found_ok n (ok b) e = cc
 
 module _ {f : Function} {v : ℕ} where
   pub value_failed : {x : Fault} → Finds f v (Err x) → Checks f (err (error_of x)) (check_value_ref v)

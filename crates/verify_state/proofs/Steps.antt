@@ -3,40 +3,39 @@ use mathlib.Core.Path.{◌≡◌, refl, sym, ◌∙◌}
 use Prim.Native.Nat.{ℕ}
 use Rattle.definitions.specs.Result.{err, ok, ◌>>=◌, ◌>>◌, map_err, Done}
 use Rattle.definitions.specs.Verify.{VerifyError, Checked, Defined}
-use Rattle.definitions.proofs.Results.{err_ok}
 use Rattle.program_nodes.specs.Nodes.{definitions_of}
 use Rattle.program_nodes.specs.declared.program.Function.{Function}
-use Rattle.verify_state.specs.Errors.{Outcome, named}
+use Rattle.verify_state.specs.Errors.{Outcome, in_function}
 use Rattle.verify_state.specs.Promises.{SameTable, Says, Checks}
 
-pub failed : {A B : Type 0} {x : ℕ × VerifyError} (n : ℕ) (r : Checked A) (k : A → Checked B) → err x ≡ named n r → err x ≡ named n (r >>= k)
+pub failed : {A B : Type 0} {x : ℕ × VerifyError} (n : ℕ) (r : Checked A) (k : A → Checked B) → err x ≡ in_function n r → err x ≡ in_function n (r >>= k)
 failed n (err y) k e = e
-failed n (ok a) k e = absurd (err_ok e)
+failed n (ok a) k e = cc
 
-pub passed : {A : Type 0} (n : ℕ) (r : Checked A) → ok tt ≡ named n r → (a : A) × (r ≡ ok a)
-passed n (err y) e = absurd (err_ok (sym e))
+pub passed : {A : Type 0} (n : ℕ) (r : Checked A) → ok tt ≡ in_function n r → (a : A) × (r ≡ ok a)
+passed n (err y) e = cc
 passed n (ok a) e = (a, refl)
 
-pub goes_on : {A B : Type 0} (n : ℕ) (r : Checked A) (k : A → Checked B) (a : A) → r ≡ ok a → named n (r >>= k) ≡ named n (k a)
+pub goes_on : {A B : Type 0} (n : ℕ) (r : Checked A) (k : A → Checked B) (a : A) → r ≡ ok a → in_function n (r >>= k) ≡ in_function n (k a)
 goes_on n r k a e = rw e
 
 -- the same for a part that gives nothing
-pub failed_then : {A B : Type 0} {x : ℕ × VerifyError} (n : ℕ) (r : Checked A) (k : Checked B) → err x ≡ named n r → err x ≡ named n (r >> k)
+pub failed_then : {A B : Type 0} {x : ℕ × VerifyError} (n : ℕ) (r : Checked A) (k : Checked B) → err x ≡ in_function n r → err x ≡ in_function n (r >> k)
 failed_then n (err y) k e = e
-failed_then n (ok a) k e = absurd (err_ok e)
+failed_then n (ok a) k e = cc
 
-pub passed_then : {A B : Type 0} (n : ℕ) (r : Checked A) (k : Checked B) → ok tt ≡ named n r → named n (r >> k) ≡ named n k
-passed_then n (err y) k e = absurd (err_ok (sym e))
+pub passed_then : {A B : Type 0} (n : ℕ) (r : Checked A) (k : Checked B) → ok tt ≡ in_function n r → in_function n (r >> k) ≡ in_function n k
+passed_then n (err y) k e = cc
 passed_then n (ok a) k e = refl
 
 -- `map_err` with the function's name
-pub mapped : (n : ℕ) (r : Checked Done) → map_err (λ (x : VerifyError). (n, x)) r ≡ named n r
+pub mapped : (n : ℕ) (r : Checked Done) → map_err (λ (x : VerifyError). (n, x)) r ≡ in_function n r
 mapped n (err x) = refl
 mapped n (ok tt) = refl
 
 -- WITH A FUNCTION'S TABLE: what is left says what the whole says
 pub record Leads {A B : Type 0} (f : Function) (whole : Defined → Checked A) (left : Defined → Checked B) : Type 0 where
-  pub same : (ds : Defined) → SameTable ds (definitions_of f) → named f.name.0 (left ds) ≡ named f.name.0 (whole ds)
+  pub same : (ds : Defined) → SameTable ds (definitions_of f) → in_function f.name.0 (left ds) ≡ in_function f.name.0 (whole ds)
 
 module _ {A B : Type 0} {f : Function} {whole : Defined → Checked A} {left : Defined → Checked B} (L : Leads f whole left) where
   pub lead_over : {r : Outcome} → Checks f r left → Checks f r whole

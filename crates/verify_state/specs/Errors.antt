@@ -30,6 +30,6 @@ abbrev pub checked_of : Result (Unit {0}) VerifyError → Outcome
 checked_of r = done_of error_of r
 
 -- a part of the check of the function f: its error has f's name, and what it gives is not looked at
-abbrev pub named : {A : Type 0} → ℕ → rules.Checked A → Outcome
-named f (err x) = err (f, x)
-named f (ok a) = ok tt
+abbrev pub in_function : {A : Type 0} → ℕ → rules.Checked A → Outcome
+in_function f (err x) = err (f, x)
+in_function f (ok a) = ok tt

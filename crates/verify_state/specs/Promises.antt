@@ -6,7 +6,7 @@ use Rattle.definitions.specs.Verify.{Checked, Defined, defined_type}
 use Rattle.program_nodes.specs.Definitions.{Definition, first_definition}
 use Rattle.program_nodes.specs.Nodes.{definitions_of}
 use Rattle.program_nodes.specs.declared.program.Function.{Function}
-use Rattle.verify_state.specs.Errors.{Outcome, named}
+use Rattle.verify_state.specs.Errors.{Outcome, in_function}
 
 -- the verifier's table has the definitions: the same values with the same types
 abbrev pub Agree : Option Definition → Option IrType → Type 0
@@ -20,7 +20,7 @@ SameTable ds es = (v : ℕ) → Agree (first_definition v es) (defined_type v ds
 
 -- r is what x says, in the function f
 abbrev pub Says : {A : Type 0} → Function → Outcome → Checked A → Type 0
-Says f r x = r ≡ named f.name.0 x
+Says f r x = r ≡ in_function f.name.0 x
 
 -- r is what k says with f's table
 pub record Checks {A : Type 0} (f : Function) (r : Outcome) (k : Defined → Checked A) : Type 0 where

@@ -4,8 +4,8 @@ use mathlib.Core.List.{List, [], ◌∷◌, ◌++◌, append-nil}
 use Prim.Native.Nat.{ℕ, zero, suc, ◌+◌, ◌-◌, ◌≤◌}
 use native.Mathlib.Omega.{arith}
 use native.Mathlib.Nat.{add-zero, sub-zero}
-use lib.ListN.{length, take, drop, set, replicate, length-replicate}
-use lib.Seq.{sets, sets-eq}
+use lib.ListN.{length, take, set, replicate, length-replicate}
+use lib.Seq.{sets, sets-eq, drop-length}
 use Rattle.definitions.specs.Answers.{padded}
 
 pub sets_append : (x y l : List ℕ) (a : ℕ) → sets l a (x ++ y) ≡ sets (sets l a x) (a + length x) y
@@ -33,9 +33,5 @@ then_zeros b out h e =
     let z : length (replicate {A = ℕ} (length out - length b) 0) ≡ length out - length b = length-replicate (length out - length b) 0 in
     let w : length b + length (replicate {A = ℕ} (length out - length b) 0) ≡ length out = omega (arith, z, h) in
     sets-eq (replicate (length out - length b) 0) out (length b) (omega (arith, w))
-    ∙ rw (e, w) (ap (λ (k : List ℕ). b ++ replicate (length out - length b) 0 ++ k) (empty out) ∙ append-nil _)
+    ∙ rw (e, w) (ap (λ (k : List ℕ). b ++ replicate (length out - length b) 0 ++ k) (drop-length out) ∙ append-nil _)
     ∙ sym (padded_is (length out) b h)
-  where
-    empty : (l : List ℕ) → drop (length l) l ≡ []
-    empty [] = refl
-    empty (x ∷ l) = empty l

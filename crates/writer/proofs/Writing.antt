@@ -5,8 +5,8 @@ use Prim.Native.Nat.{ℕ, zero, suc, ◌+◌, ◌-◌, ◌/◌, ◌%◌, ◌≤�
 use native.Mathlib.Nat.{zero-add}
 use native.Mathlib.Numerals.{add-one, sub-one}
 use native.Mathlib.Omega.{arith}
-use borrow.Rule.Slice.PartMut.{put_mid, Post-is}
-use lib.ListN.{length, get_or, set, take, drop}
+use borrow.Rule.Slice.PartMut.{put_mid, mid_len, Post-is}
+use lib.ListN.{length, get_or, set, take, drop, replicate, length-replicate}
 use lib.Seq.{sets, sets-eq, drop-cons, drop-length}
 use Rattle.definitions.specs.Fields.{bytes}
 
@@ -22,6 +22,12 @@ pub part_is_stored : (a e : ℕ) (l part : List ℕ) → a ≤ e → e ≤ lengt
 part_is_stored a e l part h k long =
     let end : e ≡ a + length part = omega arith in
     rw (Post-is a e l h) (sym (append_assoc (take a l) part (drop e l)) ∙ ap (λ (n : ℕ). take a l ++ part ++ drop n l) end ∙ sym (sets-eq part l a (omega arith)))
+
+-- a part of n bytes that was filled with zeros
+pub part_zeroed : (a e n : ℕ) (l part : List ℕ) → a ≤ e → e ≤ length l → e - a ≡ n → part ≡ replicate (length (take (e - a) (drop a l))) 0 → put_mid a (e - a) l part ≡ sets l a (replicate n 0)
+part_zeroed a e n l part h k is z =
+    let zeros : part ≡ replicate n 0 = z ∙ ap (λ (m : ℕ). replicate m 0) (mid_len a e l k ∙ is) in
+    rw zeros (part_is_stored a e l (replicate n 0) h k (length-replicate n 0 ∙ sym is))
 
 pub copy_front : (l from : List ℕ) (to at i n : ℕ) → i < n → at + n ≤ length from
     → sets l (to + i) (take (n - i) (drop (at + i) from)) ≡ sets (set l (to + i) (get_or from (at + i) 0)) (to + (i + 1)) (take (n - (i + 1)) (drop (at + (i + 1)) from))

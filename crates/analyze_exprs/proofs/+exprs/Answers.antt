@@ -5,11 +5,11 @@ use Rattle.ir.proofs.Exits.{exit}
 use Rattle.definitions.specs.Result.{◌>>=◌, ◌>>◌, ok}
 use Rattle.definitions.specs.Analyze.{Ty, U64}
 use Rattle.analyze_walk.specs.Stops.{Checking, access, check_expr}
-use Rattle.analyze_state.specs.State.{contract_of}
+use Rattle.analyze_state.specs.State.{analyzed_contract}
 use Rattle.analyze_state.proofs.Raising.{raised}
 use Rattle.contract_nodes.specs.Nodes.{struct_in, fields_in, count_of}
 use Rattle.analyze_exprs.specs.Calls.{param_ty}
-use Rattle.analyze_exprs.proofs.Turns.{undefined, defined, value_refused, field_refused, field_passed, no_fields, left_refused, right_refused, both_typed, call_starts, finishes, goes_on, refuses}
+use Rattle.analyze_exprs.proofs.Turns.{struct_is, value_is, field_is, no_fields, left_is, right_is, both_typed, call_starts, finishes, goes_on, refuses}
 use Rattle.std.specs.Iterator.Adapters.{enumerate_count}
 use Rattle.analyze_exprs.proofs.+exprs.Goals as goal
 
@@ -23,16 +23,17 @@ pub analyze_expr-returns-in_err-ty-in-FieldAccess : goal.analyze_expr-returns-in
 unfolding check_expr
 analyze_expr-returns-in_err-ty-in-FieldAccess t c =
     rw (exit c.from_residual-in_err-ty-in-FieldAccess.ensures.1, c.in-FieldAccess.ensures.is)
-    (ap (λ (r : Checking Ty). r >>= access (contract_of c.args.a.now) c.args.e.at c.in-FieldAccess.field.0) c.in_err-ty-in-FieldAccess.ensures)
+    (ap (λ (r : Checking Ty). r >>= access (analyzed_contract c.args.a.now) c.args.e.at c.in-FieldAccess.field.0) c.in_err-ty-in-FieldAccess.ensures)
 
 pub analyze_expr-returns-in_err-l-in-Binary : goal.analyze_expr-returns-in_err-l-in-Binary
 analyze_expr-returns-in_err-l-in-Binary t c =
-    rw (exit c.from_residual-in_err-l-in-Binary.ensures.1, c.in-Binary.ensures.is) (left_refused _ _ _ _ _ _ c.in_err-l-in-Binary.ensures)
+    rw (exit c.from_residual-in_err-l-in-Binary.ensures.1, c.in-Binary.ensures.is) (left_is _ _ _ _ _ _ c.in_err-l-in-Binary.ensures)
 
 pub analyze_expr-returns-in_err-r-in-Binary : goal.analyze_expr-returns-in_err-r-in-Binary
 analyze_expr-returns-in_err-r-in-Binary t c =
-    rw (exit c.from_residual-in_err-r-in-Binary.ensures.1, c.in-Binary.ensures.is) (right_refused _ _ _ _ _ _ c.in_ok-l-in-Binary.ensures c.in_err-r-in-Binary.ensures)
+    rw (exit c.from_residual-in_err-r-in-Binary.ensures.1, c.in-Binary.ensures.is) (right_is _ _ _ _ _ _ c.in_ok-l-in-Binary.ensures c.in_err-r-in-Binary.ensures)
 
+-- the operands' types differ, or not
 pub analyze_expr-returns-then-differs : goal.analyze_expr-returns-then-differs
 analyze_expr-returns-then-differs t c =
     rw c.in-Binary.ensures.is (both_typed _ _ _ _ _ _ c.in_ok-l-in-Binary.ensures c.in_ok-r-in-Binary.ensures (sym c.if-differs.true ∙ c.differs.ensures))
@@ -44,14 +45,14 @@ analyze_expr-returns-else-differs t c =
 -- A STRUCT LITERAL
 pub analyze_literal-returns-in_err-of : goal.analyze_literal-returns-in_err-of
 analyze_literal-returns-in_err-of t c =
-    rw (exit c.from_residual.ensures.1) (undefined (contract_of c.args.a.now) c.args.env.now.names c.args.at c.args.name.0 (fields_in c.args.inits) (raised struct_in _ _ c.named.ensures.is (sym c.in_err-of.was ∙ c.ok_or.ensures.value)))
+    rw (exit c.from_residual.ensures.1) (struct_is (analyzed_contract c.args.a.now) c.args.env.now.names c.args.at c.args.name.0 (fields_in c.args.inits) (raised struct_in _ _ c.named.ensures.is c.in_err-of.ensures.value))
 
 pub analyze_literal-loop-init-init : goal.analyze_literal-loop-init-init
 analyze_literal-loop-init-init t c =
     rw c.into_iter-init-iterator.ensures.into_iter_gives (record {
       sheet = c.requires;
       depth = refl;
-      is = defined _ _ _ _ _ (raised struct_in _ _ c.named.ensures.is (sym c.in_ok-of.was ∙ c.ok_or.ensures.value));
+      is = struct_is _ _ _ _ _ (raised struct_in _ _ c.named.ensures.is c.in_ok-of.ensures.value);
     })
 
 pub analyze_literal-analyze_expr-requires : goal.analyze_literal-analyze_expr-requires
@@ -61,11 +62,11 @@ analyze_literal-analyze_expr-requires t c =
 
 pub analyze_literal-returns-in_err-ty : goal.analyze_literal-returns-in_err-ty
 analyze_literal-returns-in_err-ty t c =
-    rw (exit c.from_residual-in_err-ty.ensures.1) (value_refused _ _ _ _ _ c.in-Some.ensures.steps.is c.loop-init.invariant.is c.in_err-ty.ensures)
+    rw (exit c.from_residual-in_err-ty.ensures.1) (value_is _ _ _ _ _ c.in-Some.ensures.steps.is c.loop-init.invariant.is c.in_err-ty.ensures)
 
 pub analyze_literal-returns-in_err-check_field : goal.analyze_literal-returns-in_err-check_field
 analyze_literal-returns-in_err-check_field t c =
-    rw (exit c.from_residual-in_err-check_field.ensures.1) (field_refused _ _ _ _ _ c.in-Some.ensures.steps.is c.loop-init.invariant.is c.in_ok-ty.ensures c.in_err-check_field.ensures)
+    rw (exit c.from_residual-in_err-check_field.ensures.1) (field_is _ _ _ _ _ c.in-Some.ensures.steps.is c.loop-init.invariant.is c.in_ok-ty.ensures c.in_err-check_field.ensures)
 
 pub analyze_literal-loop-init-preserved : goal.analyze_literal-loop-init-preserved
 analyze_literal-loop-init-preserved t c =
@@ -73,7 +74,7 @@ analyze_literal-loop-init-preserved t c =
     record {
       sheet = f.rest_sheet ∙ c.loop-init.invariant.sheet;
       depth = f.rest_depth ∙ c.loop-init.invariant.depth;
-      is = field_passed _ _ _ _ _ f.is c.loop-init.invariant.is c.in_ok-ty.ensures c.in_ok-check_field.ensures;
+      is = field_is _ _ _ _ _ f.is c.loop-init.invariant.is c.in_ok-ty.ensures c.in_ok-check_field.ensures;
     }
 
 pub analyze_literal-returns : goal.analyze_literal-returns

@@ -7,7 +7,7 @@ use Rattle.definitions.specs.Ir.{IrType}
 use Rattle.definitions.specs.Analyze.{known}
 use Rattle.contract_nodes.specs.Nodes.{struct_in, fields_in, exprs_in, count_of}
 use Rattle.analyze_walk.specs.Stops.{check_fields}
-use Rattle.analyze_state.specs.State.{contract_of, OfSheet}
+use Rattle.analyze_state.specs.State.{analyzed_contract, OfSheet}
 use Rattle.analyze_exprs.specs.Typed.{check_literal, check_call}
 use Rattle.analyze_exprs.specs.Calls.{callee_in}
 use Rattle.analyze_exprs.proofs.Turns.{Going}
@@ -29,7 +29,7 @@ abbrev pub invariant-analyze_literal-loop-init : goal.invariant-analyze_literal-
 invariant-analyze_literal-loop-init l = record {
   sheet : OfSheet l.a l.init-iterator.contract;
   depth : l.init-iterator.depth ≡ l.fn.inits.depth;
-  is : (check_fields (contract_of l.a) l.env.names l.at (struct_in l.of).fields (fields_in l.init-iterator) >> ok (known (IrType.Struct l.name.0))) ≡ check_literal (contract_of l.a) l.env.names l.at l.name.0 (fields_in l.fn.inits);
+  is : (check_fields (analyzed_contract l.a) l.env.names l.at (struct_in l.of).fields (fields_in l.init-iterator) >> ok (known (IrType.Struct l.name.0))) ≡ check_literal (analyzed_contract l.a) l.env.names l.at l.name.0 (fields_in l.fn.inits);
 }
 
 -- the arguments that are left, after the types so far, give what the whole call gives; each takes a place
@@ -42,5 +42,5 @@ invariant-analyze_call-loop-i l =
       depth : rest.depth ≡ l.fn.args.depth;
       few : n ≤ rest.at;
       many : n + count_of (exprs_in rest) ≡ count_of (exprs_in l.fn.args);
-      left : Going (contract_of l.a) l.env.names l.at (callee_in l.callee) (check_call (contract_of l.a) l.env.names l.at l.fn.name.0 (exprs_in l.fn.args)) (exprs_in rest) n l.fits;
+      left : Going (analyzed_contract l.a) l.env.names l.at (callee_in l.callee) (check_call (analyzed_contract l.a) l.env.names l.at l.fn.name.0 (exprs_in l.fn.args)) (exprs_in rest) n l.fits;
     }

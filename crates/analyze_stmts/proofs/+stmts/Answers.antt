@@ -5,12 +5,10 @@ use Rattle.ir.proofs.Exits.{exit}
 use Rattle.definitions.specs.Result.{ok}
 use Rattle.definitions.specs.Analyze.{Env}
 use Rattle.definitions.specs.Grammar.{Class}
-use Rattle.analyze_walk.specs.Stops.{check_stmts}
-use Rattle.contract_nodes.specs.Nodes.{stmts_in}
 use Rattle.analyze_env.specs.Names.{Names}
-use Rattle.analyze_state.specs.State.{contract_of, ret_of}
-use Rattle.analyze_stmts.proofs.Growing.{one_more, then_more, up_to, on_ok, names_back, back, in_order}
-use Rattle.analyze_stmts.proofs.Steps.{let_is, first_is, none_is, if_refused, then_refused, if_is, while_refused, while_is, for_refused, body_refused, for_is}
+use Rattle.analyze_stmts.proofs.Growing.{one_more, then_more, up_to, names_back, back, in_order}
+use Rattle.std.proofs.lemmas.Result.{on_ok_weaker}
+use Rattle.analyze_stmts.proofs.Steps.{let_is, first_is, none_is, test_is, then_is, if_is, while_is, bounds_are, body_is}
 use Rattle.analyze_stmts.proofs.+stmts.Goals as goal
 
 -- LET
@@ -28,46 +26,43 @@ analyze_stmt-returns-in_ok-ty-in-Let-clause-grown t c = one_more c.args.t.at c.i
 -- IF
 pub analyze_stmt-returns-in_err-analyze_expr-in-If-clause-is : goal.analyze_stmt-returns-in_err-analyze_expr-in-If-clause-is
 analyze_stmt-returns-in_err-analyze_expr-in-If-clause-is t c =
-    rw (exit c.from_residual-in_err-analyze_expr-in-If.ensures.1) (if_refused _ _ _ c.in-If.ensures.is.is c.in_err-analyze_expr-in-If.ensures)
+    rw (exit c.from_residual-in_err-analyze_expr-in-If.ensures.1) (test_is _ _ _ c.in-If.ensures.is c.in_err-analyze_expr-in-If.ensures)
 
 pub analyze_stmt-returns-in_err-analyze_stmts-in-If-clause-is : goal.analyze_stmt-returns-in_err-analyze_stmts-in-If-clause-is
 analyze_stmt-returns-in_err-analyze_stmts-in-If-clause-is t c =
-    rw (exit c.from_residual-in_err-analyze_stmts-in-If.ensures.1) (then_refused _ _ _ c.in-If.ensures.is.is c.in_ok-analyze_expr-in-If.ensures c.in_err-analyze_stmts-in-If.ensures.is)
+    rw (exit c.from_residual-in_err-analyze_stmts-in-If.ensures.1) (then_is _ _ _ c.in-If.ensures.is c.in_ok-analyze_expr-in-If.ensures c.in_err-analyze_stmts-in-If.ensures.is)
 
 pub analyze_stmt-returns-in_ok-analyze_stmts-in-If-clause-is : goal.analyze_stmt-returns-in_ok-analyze_stmts-in-If-clause-is
 analyze_stmt-returns-in_ok-analyze_stmts-in-If-clause-is t c =
-    let i = c.in-If.ensures.is in
-    if_is _ _ _ i.is c.in_ok-analyze_expr-in-If.ensures i.other c.in_ok-analyze_stmts-in-If.ensures.is c.analyze_stmts-in-If.ensures.is
+    if_is _ _ _ c.in-If.ensures.is c.in_ok-analyze_expr-in-If.ensures c.in_ok-analyze_stmts-in-If.ensures.is c.analyze_stmts-in-If.ensures.is
 
 pub analyze_stmt-returns-in_ok-analyze_stmts-in-If-clause-grown : goal.analyze_stmt-returns-in_ok-analyze_stmts-in-If-clause-grown
 analyze_stmt-returns-in_ok-analyze_stmts-in-If-clause-grown t c =
-    on_ok c.analyze_stmts-in-If.result (λ g. up_to (then_more c.in_ok-analyze_stmts-in-If.ensures.grown g) c.in-If.ensures.parts.2.high) c.analyze_stmts-in-If.ensures.grown
+    on_ok_weaker c.analyze_stmts-in-If.result (λ g. up_to (then_more c.in_ok-analyze_stmts-in-If.ensures.grown g) c.in-If.ensures.parts.2.high) c.analyze_stmts-in-If.ensures.grown
 
 -- WHILE
 pub analyze_stmt-returns-in_err-analyze_expr-in-While-clause-is : goal.analyze_stmt-returns-in_err-analyze_expr-in-While-clause-is
 analyze_stmt-returns-in_err-analyze_expr-in-While-clause-is t c =
-    rw (exit c.from_residual-in_err-analyze_expr-in-While.ensures.1) (while_refused _ _ _ c.in-While.ensures.is.1 c.in_err-analyze_expr-in-While.ensures)
+    rw (exit c.from_residual-in_err-analyze_expr-in-While.ensures.1) (while_is _ _ _ c.in-While.ensures.is.1 c.in_err-analyze_expr-in-While.ensures)
 
 pub analyze_stmt-returns-in_ok-analyze_expr-in-While-clause-is : goal.analyze_stmt-returns-in_ok-analyze_expr-in-While-clause-is
 analyze_stmt-returns-in_ok-analyze_expr-in-While-clause-is t c =
-    while_is _ _ _ c.in-While.ensures.is.1 c.in_ok-analyze_expr-in-While.ensures c.analyze_stmts-in-While.ensures.is
+    c.analyze_stmts-in-While.ensures.is ∙ while_is _ _ _ c.in-While.ensures.is.1 c.in_ok-analyze_expr-in-While.ensures
 
 -- FOR
 pub analyze_stmt-returns-in_err-analyze_pair-in-For-clause-is : goal.analyze_stmt-returns-in_err-analyze_pair-in-For-clause-is
 analyze_stmt-returns-in_err-analyze_pair-in-For-clause-is t c =
-    rw (exit c.from_residual-in_err-analyze_pair-in-For.ensures.1) (for_refused _ _ _ c.in-For.ensures.is.1 c.in_err-analyze_pair-in-For.ensures)
+    rw (exit c.from_residual-in_err-analyze_pair-in-For.ensures.1) (bounds_are _ _ _ c.in-For.ensures.is.1 c.in_err-analyze_pair-in-For.ensures)
 
 pub analyze_stmt-returns-in_err-analyze_stmts-in-For-clause-is : goal.analyze_stmt-returns-in_err-analyze_stmts-in-For-clause-is
 analyze_stmt-returns-in_err-analyze_stmts-in-For-clause-is t c =
     rw (exit c.from_residual-in_err-analyze_stmts-in-For.ensures.1)
-    (body_refused _ _ _ c.in-For.ensures.is.1 c.in_ok-analyze_pair-in-For.ensures
-    (c.in_err-analyze_stmts-in-For.ensures.is ∙ ap (λ (e : Names). check_stmts (contract_of c.args.a.now) (ret_of c.args.a.now) (stmts_in c.in-For.body) e.names) c.insert-in-For.ensures))
+    (body_is _ _ _ c.in-For.ensures.is.1 c.in_ok-analyze_pair-in-For.ensures c.insert-in-For.ensures c.in_err-analyze_stmts-in-For.ensures.is)
 
 pub analyze_stmt-returns-in_ok-analyze_stmts-in-For-clause-is : goal.analyze_stmt-returns-in_ok-analyze_stmts-in-For-clause-is
 analyze_stmt-returns-in_ok-analyze_stmts-in-For-clause-is t c =
     ap (λ (e : Env). ok e) (names_back c.insert-in-For.ensures c.in_ok-analyze_stmts-in-For.ensures.grown c.len-mark.ensures c.truncate.ensures)
-    ∙ for_is _ _ _ c.in-For.ensures.is.1 c.in_ok-analyze_pair-in-For.ensures
-    (c.in_ok-analyze_stmts-in-For.ensures.is ∙ ap (λ (e : Names). check_stmts (contract_of c.args.a.now) (ret_of c.args.a.now) (stmts_in c.in-For.body) e.names) c.insert-in-For.ensures)
+    ∙ body_is _ _ _ c.in-For.ensures.is.1 c.in_ok-analyze_pair-in-For.ensures c.insert-in-For.ensures c.in_ok-analyze_stmts-in-For.ensures.is
 
 pub analyze_stmt-returns-in_ok-analyze_stmts-in-For-clause-grown : goal.analyze_stmt-returns-in_ok-analyze_stmts-in-For-clause-grown
 analyze_stmt-returns-in_ok-analyze_stmts-in-For-clause-grown t c =

@@ -3,7 +3,7 @@ use mathlib.Core.Path.{◌≡◌}
 use Prim.Native.Nat.{◌+◌, ◌*◌}
 use Rattle.contract_nodes.specs.Nodes.{stmts_in}
 use Rattle.analyze_walk.specs.Stops.{check_stmts}
-use Rattle.analyze_state.specs.State.{contract_of, ret_of, OfSheet}
+use Rattle.analyze_state.specs.State.{analyzed_contract, ret_of, OfSheet}
 use Rattle.analyze_stmts.specs.Room.{GrownTo}
 use Rattle.analyze_stmts.proofs.+stmts.Given as goal
 
@@ -20,5 +20,5 @@ invariant-analyze_stmts-loop-t l = record {
   depth : l.t-iterator.depth ≡ l.fn.body.depth;
   end : l.t-iterator.end ≡ l.fn.body.end;
   grown : GrownTo l.fn.env l.env l.t-iterator.at;
-  is : check_stmts (contract_of l.a) (ret_of l.a) (stmts_in l.t-iterator) l.env.names ≡ check_stmts (contract_of l.a) (ret_of l.a) (stmts_in l.fn.body) l.fn.env.names;
+  is : check_stmts (analyzed_contract l.a) (ret_of l.a) (stmts_in l.t-iterator) l.env.names ≡ check_stmts (analyzed_contract l.a) (ret_of l.a) (stmts_in l.fn.body) l.fn.env.names;
 }

@@ -11,7 +11,7 @@ use borrow.Author.Tests.{leb-true, eqb-true, eq-eqb, ne_eqb}
 use Rattle.definitions.specs.Fields.{le}
 use Rattle.definitions.specs.Grammar.{Class, Entry, Field, Pattern, counted, listed, rows, single}
 use Rattle.definitions.specs.Fine.{Head, Fine, ends, goes}
-use Rattle.definitions.specs.Records.{Bad, Form, Good, Next, Row, Start, Trees, after, and_then, check_rest, field_end, fields_end, left, may_end, no_row, node, nothing, ok_field, ok_items, past, past_all, pick, read_node, read_records, read_values, records_from, refused, row, row_fields, row_in, size_of, start_at, start_if, start_row, starts, tcons, tnil, trees_from}
+use Rattle.definitions.specs.Records.{Bad, Verdict, Good, Next, Row, Start, Trees, after, and_then, check_rest, field_end, fields_end, left, may_end, no_row, node, nothing, ok_field, ok_items, past, past_all, pick, read_node, read_records, read_values, records_from, refused, row, row_fields, row_in, size_of, start_at, start_if, start_row, starts, tcons, tnil, trees_from}
 use Rattle.definitions.proofs.Results.{some_none, by_test}
 
 -- what holds of both arms holds of the pick
@@ -129,7 +129,7 @@ bound_enough (suc n) (suc m) s at end q hn hm = go (eqb at end) refl (λ b p i h
 pub bad_good : {p : ℕ} → Bad p ≡ Good → ⊥
 bad_good e = let z : ◌≡◌ {A = ℕ} 0 1 = cc in omega arith
 
-pub both_good : (a b : Form) → and_then a b ≡ Good → (a ≡ Good) × (b ≡ Good)
+pub both_good : (a b : Verdict) → and_then a b ≡ Good → (a ≡ Good) × (b ≡ Good)
 unfolding and_then
 both_good Good b e = (refl, e)
 both_good (Bad p) b e = absurd (bad_good e)

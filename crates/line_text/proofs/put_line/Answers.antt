@@ -8,4 +8,4 @@ pub returns : goal.returns
 returns c =
     let p = c.put_numbers-end in
     let b = p.ensures in
-    filled _ p.new.out c.fill.new.self p.result _ (b.front ∙ ap line_of c.as_slice.ensures.is) b.same_length (omega (arith, b.short, c.requires)) (c.fill.ensures.after (λ y e. e))
+    filled _ p.new.out _ p.result _ (b.front ∙ ap line_of c.as_slice.ensures.is) b.same_length (omega (arith, b.short, c.requires)) c.clear.ensures

@@ -11,16 +11,16 @@ returns-in_default c =
 
 pub loop-detail-init : goal.loop-detail-init
 loop-detail-init c =
-    let p = c.put_number-at.ensures in
+    let p = c.put_digits-at.ensures in
     let split : c.args.numbers.now ≡ c.in-Some.first.now ∷ c.in-Some.details.now = c.in-Some.ensures.cases.0 in
-    (omega (arith, p.short), p.same_length, rw split (first c.in-Some.first.now c.in-Some.details.now _ p.front))
+    (omega (arith, p.high), p.same_length, rw split (first c.in-Some.first.now c.in-Some.details.now _ p.front))
 
 pub loop-detail-preserved : goal.loop-detail-preserved
 loop-detail-preserved c =
     let l = c.loop-detail in
-    let p = c.put_number-at-in-loop-detail.ensures in
+    let p = c.put_digits-at-in-loop-detail.ensures in
     let room : l.at < length l.out = omega (arith, c.in-Some.ensures.cases.1, c.loop-detail-test.true, l.invariant.0, l.invariant.1) in (
-      omega (arith, p.short, l.invariant.0),
+      omega (arith, p.high, l.invariant.0),
       p.same_length ∙ length-set l.out l.at 32 ∙ l.invariant.1,
       rw (p.front, take_more_set l.out l.at 32 room) (next _ c.in-Some.details.now (take l.at l.out) l.detail-index c.loop-detail-test.true l.invariant.2),
     )

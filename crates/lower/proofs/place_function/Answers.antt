@@ -7,19 +7,19 @@ use Rattle.lower.proofs.place_function.Goals as goal
 pub returns-in_err-lower_function : goal.returns-in_err-lower_function
 returns-in_err-lower_function c =
     let w = c.in_err-lower_function.ensures in
-    rw (exit c.from_residual.ensures.1) (not_walked c.args.f.contract.sheet.now c.args.f.at _ _ _ c.args.f.ready w.sizes w.is, refl)
+    rw (exit c.from_residual.ensures.1) (not_walked c.args.f _ _ _ w.sizes w.is, refl)
 
 pub returns-in_default : goal.returns-in_default
 returns-in_default c =
     let w = c.in_ok-lower_function.ensures in
-    rw c.in_default.is (not_put c.args.f.contract.sheet.now c.args.f.at _ _ _ c.args.f.ready w.sizes w.is c.args.out.now)
+    rw c.in_default.is (not_put c.args.f _ _ _ w.sizes w.is c.args.out.now)
 
 pub lay_function-requires : goal.lay_function-requires
 lay_function-requires c =
     let w = c.in_ok-lower_function.ensures in
-    within c.args.f.contract.sheet.now c.args.f.at _ _ _ c.args.f.ready w.sizes w.is
+    within c.args.f _ _ _ w.sizes w.is
 
 pub returns : goal.returns
 returns c =
     let w = c.in_ok-lower_function.ensures in
-    rw c.in-Some.is (put c.args.f.contract.sheet.now c.args.f.at _ _ _ c.args.f.ready w.sizes w.is c.args.out.now _ _ _ c.lay_function.ensures)
+    rw c.in-Some.is (put c.args.f _ _ _ w.sizes w.is c.args.out.now _ _ _ c.lay_function.ensures)

@@ -3,7 +3,7 @@
 use mathlib.Core.Path.{◌≡◌}
 use Prim.Native.Nat.{◌+◌, ◌*◌}
 use Rattle.contract_nodes.specs.Nodes.{contract_in, exprs_in}
-use Rattle.lower_values.specs.Calls.{finish_call}
+use Rattle.lower_walk.specs.Exprs.{finish_call}
 use Rattle.lower_values.specs.Values.{called_of}
 use Rattle.lower_exprs.specs.Calls.{call_of}
 use Rattle.lower_exprs.proofs.ArgSteps.{Going}

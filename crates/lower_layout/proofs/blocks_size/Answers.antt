@@ -1,5 +1,5 @@
 -- `lower_layout::blocks_size`: the bytes of the blocks before k are added up. Assumes nothing.
-use mathlib.Core.Path.{◌≡◌, refl, ap, ◌∙◌}
+use mathlib.Core.Path.{refl, ap, ◌∙◌}
 use Prim.Native.Nat.{◌-◌}
 use native.Mathlib.Omega.{arith}
 use lib.ListN.{length, get_or, drop}
@@ -23,8 +23,4 @@ loop-k-preserved c =
     (omega (arith, one_block a l.k x (block_here a l.k c.records.ensures), l.invariant.0), omega (arith, n, w.1, c.requires.0, l.invariant.1))
 
 pub returns-clause-is : goal.returns-clause-is
-returns-clause-is c =
-    let a = c.args.ctx.now in
-    let l = c.loop-k in
-    let e : a.next_block ≡ l.k = omega arith in
-    rw (blocks_run a, e) l.invariant.0
+returns-clause-is c = rw (blocks_run c.args.ctx.now c.loop-k.k (omega arith)) c.loop-k.invariant.0

@@ -3,7 +3,8 @@ use mathlib.Core.Path.{refl}
 use native.Mathlib.Omega.{arith}
 use lib.ListN.{length}
 use Rattle.std.proofs.lemmas.List.{take_all}
-use Rattle.lower_layout.proofs.Storing.{◌then◌, wrote, wrote_head, put_as}
+use Rattle.lower_state.proofs.Appending.{◌then◌}
+use Rattle.lower_layout.proofs.Storing.{wrote, wrote_head, put_as}
 use Rattle.lower_layout.proofs.Records.{block_is}
 use Rattle.lower_layout.proofs.lay_block.Goals as goal
 

@@ -1,5 +1,5 @@
 -- `lower_layout::lay_blocks`: the blocks before k are written. Assumes nothing.
-use mathlib.Core.Path.{◌≡◌, sym, ap, ◌∙◌}
+use mathlib.Core.Path.{refl, sym, ap, ◌∙◌}
 use native.Mathlib.Omega.{arith}
 use lib.ListN.{length}
 use Rattle.lower_layout.proofs.Storing.{run_none, run_next, run_room, put_as}
@@ -15,15 +15,11 @@ lay_block-at-requires c =
     let l = c.loop-k in
     let x = c.records.result.now in
     let e = ap length (sym (block_here a l.k c.records.ensures)) ∙ block_length l.k x in
-    let r = run_room (block_at a) l.k a.next_block l.invariant (omega arith) (rw (blocks_run a) at c.requires.room) in
+    let r = run_room (block_at a) l.k a.next_block l.invariant (omega arith) (rw (blocks_run a a.next_block refl) at c.requires.room) in
     omega (arith, r, e)
 
 pub loop-k-preserved : goal.loop-k-preserved
 loop-k-preserved c = run_next _ _ c.loop-k.invariant (put_as (block_here c.args.ctx.now c.loop-k.k c.records.ensures) c.lay_block-at.ensures)
 
 pub returns : goal.returns
-returns c =
-    let a = c.args.ctx.now in
-    let l = c.loop-k in
-    let e : a.next_block ≡ l.k = omega arith in
-    rw (blocks_run a, e) l.invariant.is
+returns c = rw (blocks_run c.args.ctx.now c.loop-k.k (omega arith)) c.loop-k.invariant.is

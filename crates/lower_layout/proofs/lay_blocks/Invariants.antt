@@ -1,5 +1,5 @@
 -- `lower_layout::lay_blocks`: the blocks before k are written. Assumes nothing.
-use Rattle.lower_layout.specs.Stored.{Put}
+use Rattle.lower_state.specs.Bytes.{Put}
 use Rattle.lower_layout.proofs.Storing.{run}
 use Rattle.lower_layout.proofs.Records.{block_at}
 use Rattle.lower_layout.proofs.lay_blocks.Given as goal

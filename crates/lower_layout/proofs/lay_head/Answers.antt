@@ -6,7 +6,8 @@ use Rattle.definitions.specs.Lower.{own_return_type}
 use Rattle.definitions.specs.Records.{write_type}
 use Rattle.contract_nodes.specs.Nodes.{function_in}
 use Rattle.ir.specs.Types.{as_type}
-use Rattle.lower_layout.proofs.Storing.{◌then◌, wrote, wrote_head, put_as}
+use Rattle.lower_state.proofs.Appending.{◌then◌}
+use Rattle.lower_layout.proofs.Storing.{wrote, wrote_head, put_as}
 use Rattle.lower_layout.proofs.Records.{params_length, head_is}
 use Rattle.lower_layout.proofs.lay_head.Goals as goal
 

@@ -1,6 +1,6 @@
 -- `lower_layout::lay_locals`: the types before i are written. Assumes nothing.
 use Rattle.std.proofs.Common.{◌+◌, ◌*◌, take}
-use Rattle.lower_layout.specs.Stored.{Put}
+use Rattle.lower_state.specs.Bytes.{Put}
 use Rattle.lower_layout.proofs.Records.{locals_part}
 use Rattle.lower_layout.proofs.lay_locals.Given as goal
 

@@ -4,7 +4,8 @@ use native.Mathlib.Omega.{arith}
 use lib.ListN.{length}
 use Rattle.definitions.specs.Records.{write_type}
 use Rattle.contract_nodes.specs.Nodes.{function_in}
-use Rattle.lower_layout.proofs.Storing.{◌then◌, wrote, put_as}
+use Rattle.lower_state.proofs.Appending.{◌then◌}
+use Rattle.lower_layout.proofs.Storing.{wrote, put_as}
 use Rattle.lower_layout.proofs.Records.{params_none, param_next, params_all, params_are}
 use Rattle.lower_layout.proofs.lay_params.Goals as goal
 

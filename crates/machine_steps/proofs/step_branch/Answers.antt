@@ -1,14 +1,30 @@
 -- `machine_steps::step_branch`: the condition, then to one of the blocks. Assumes nothing.
-use Rattle.machine_state.proofs.Asking.{asked_some, asked_none, halts_by}
-use Rattle.machine_steps.proofs.Doing.{branch_lacks, branch_else_lem, branch_then_lem}
+use mathlib.Core.Path.{refl}
+use borrow.Author.Tests.{eq-eqb, ne_eqb}
+use Rattle.definitions.specs.Bench.{step_terminator}
+use Rattle.machine_state.proofs.Running.{value_is}
+use Rattle.machine_state.proofs.Asking.{halts_by}
 use Rattle.machine_steps.proofs.step_branch.Goals as goal
 
 pub returns-in_err-word : goal.returns-in_err-word
-returns-in_err-word c =
-    branch_lacks c.value.ensures _ _ (asked_none c.ok_or.ensures.ok_part c.in_err-word.was) (halts_by c.ok_or.ensures.value c.ok_or.ensures.ok_part c.in_err-word.was c.from_residual.ensures.1)
+unfolding step_terminator
+returns-in_err-word c = record {
+  run = λ frames state outside m R. rw (halts_by _ c.in_err-word.ensures.value c.from_residual.ensures.1, value_is R _ c.value.ensures c.in_err-word.ensures.ok_part) refl;
+  kept = λ h e. refl;
+}
 
 pub returns-then-word-eq0 : goal.returns-then-word-eq0
-returns-then-word-eq0 c = branch_else_lem c.value.ensures (asked_some c.ok_or.ensures.ok_part c.in_ok-word.was) _ _ c.if-word-eq0.true c.go_to.ensures
+unfolding step_terminator
+returns-then-word-eq0 c = record {
+  run = λ frames state outside m R.
+      rw (value_is R _ c.value.ensures c.in_ok-word.ensures.ok_part, eq-eqb c.in_ok-word.word 0 c.if-word-eq0.true) (c.go_to.ensures.run c.args.memory.now frames state outside m R);
+  kept = c.go_to.ensures.kept;
+}
 
 pub returns : goal.returns
-returns c = branch_then_lem c.value.ensures (asked_some c.ok_or.ensures.ok_part c.in_ok-word.was) _ _ c.if-word-eq0.false c.go_to-2.ensures
+unfolding step_terminator
+returns c = record {
+  run = λ frames state outside m R.
+      rw (value_is R _ c.value.ensures c.in_ok-word.ensures.ok_part, ne_eqb c.in_ok-word.word 0 c.if-word-eq0.false) (c.go_to-2.ensures.run c.args.memory.now frames state outside m R);
+  kept = c.go_to-2.ensures.kept;
+}

@@ -1,7 +1,9 @@
 -- `machine_steps::step_const`: its result takes the number. Assumes nothing.
 use borrow.Author.Rules.{rules}
-use Rattle.machine_steps.proofs.Doing.{const_does}
+use Rattle.definitions.specs.Bench.{step_instr}
+use Rattle.machine_state.proofs.Asking.{goes_on, result}
 use Rattle.machine_steps.proofs.step_const.Goals as goal
 
 pub returns : goal.returns
-returns c = const_does c.requires (search rules) c.give.ensures
+unfolding step_instr
+returns c ty state outside = goes_on (λ lent frames block depth m R. result R c.requires (search rules) c.give.ensures)

@@ -1,12 +1,16 @@
 -- `machine_steps::step_read_local`: its result takes the local's word. Assumes nothing.
 use borrow.Author.Rules.{rules}
-use Rattle.machine_state.proofs.Asking.{asked_some, asked_none, halts_by}
-use Rattle.machine_steps.proofs.Doing.{read_local_does, read_local_lacks}
+use Rattle.definitions.specs.Bench.{step_instr}
+use Rattle.machine_state.proofs.Running.{local_is}
+use Rattle.machine_state.proofs.Asking.{halts_by, goes_on, stops, result}
 use Rattle.machine_steps.proofs.step_read_local.Goals as goal
 
 pub returns-in_err-word : goal.returns-in_err-word
-returns-in_err-word c =
-    read_local_lacks (halts_by c.ok_or.ensures.value c.ok_or.ensures.ok_part c.in_err-word.was c.from_residual.ensures.1) _ c.local.ensures (asked_none c.ok_or.ensures.ok_part c.in_err-word.was)
+unfolding step_instr
+returns-in_err-word c ty state outside =
+    stops (halts_by _ c.in_err-word.ensures.value c.from_residual.ensures.1) (λ lent frames block depth m R. rw (local_is R _ c.local.ensures c.in_err-word.ensures.ok_part))
 
 pub returns : goal.returns
-returns c = read_local_does c.requires (search rules) c.give.ensures c.local.ensures (asked_some c.ok_or.ensures.ok_part c.in_ok-word.was)
+unfolding step_instr
+returns c ty state outside =
+    goes_on (λ lent frames block depth m R. rw (local_is R _ c.local.ensures c.in_ok-word.ensures.ok_part) (result R c.requires (search rules) c.give.ensures))

@@ -1,6 +1,8 @@
 -- `machine_steps::step_unreachable`: the run ends. Assumes nothing.
-use Rattle.machine_steps.proofs.Doing.{unreachable_ends}
+use mathlib.Core.Path.{refl}
+use Rattle.definitions.specs.Bench.{step_terminator}
 use Rattle.machine_steps.proofs.step_unreachable.Goals as goal
 
 pub returns : goal.returns
-returns c = unreachable_ends
+unfolding step_terminator
+returns c memory t = record { run = λ frames state outside m R. refl; kept = λ h e. refl }

@@ -1,7 +1,8 @@
 -- `verify::verify_block`: the first record, or the end. Assumes nothing.
 use Rattle.program_nodes.specs.Nodes.{block_in, node_in}
 use Rattle.ir.proofs.Exits.{exit}
-use Rattle.verify.proofs.Seconds.{whole_block, an_instr, a_term, instr_failed, instr_passed, terminator_says, missing}
+use Rattle.program_nodes.proofs.Takes.{an_instr, a_term}
+use Rattle.verify.proofs.Seconds.{whole_block, instr_failed, instr_passed, terminator_says, missing}
 use Rattle.verify.proofs.verify_block.Goals as goal
 
 pub loop-record-init : goal.loop-record-init

@@ -2,7 +2,8 @@
 use Rattle.definitions.specs.Verify.{define_results}
 use Rattle.program_nodes.specs.Nodes.{node_in}
 use Rattle.ir.proofs.Exits.{exit}
-use Rattle.verify_define.proofs.Firsts.{start, an_instr, a_term, result_failed, result_passed, instrs_over}
+use Rattle.program_nodes.proofs.Takes.{an_instr, a_term}
+use Rattle.verify_define.proofs.Firsts.{start, result_failed, result_passed, instrs_over}
 use Rattle.verify_define.proofs.define_block.Goals as goal
 
 pub loop-record-init : goal.loop-record-init

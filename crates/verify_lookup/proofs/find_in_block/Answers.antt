@@ -1,6 +1,7 @@
 -- `verify_lookup::find_in_block`: the first is it, or it is looked for in the rest. Assumes nothing.
 use mathlib.Core.Path.{◌∙◌}
-use Rattle.verify_lookup.proofs.Searches.{instr_hit, instr_miss, nothing, is_value, no_value, an_instr, a_term}
+use Rattle.program_nodes.proofs.Takes.{an_instr, a_term}
+use Rattle.verify_lookup.proofs.Searches.{instr_hit, instr_miss, nothing, is_value, no_value}
 use Rattle.verify_lookup.proofs.find_in_block.Goals as goal
 
 pub returns-then-gives : goal.returns-then-gives

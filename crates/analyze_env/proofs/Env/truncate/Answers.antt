@@ -1,4 +1,5 @@
--- `analyze_env::Env::truncate`: the newest entry's chain gets back the head from before it. Assumes nothing.
+-- `analyze_env::Env::truncate`: the newest entry's chain gets back the head from before it. Assumes nothing. `reaches` gets the entries each time: the view
+-- shows them only where it is unfolded.
 use Prim.Native.Nat.{◌-◌}
 use native.Mathlib.Omega.{arith}
 use borrow.Rule.Slice.PartMut.{put_same}
@@ -14,7 +15,7 @@ pub slice_bounds-going-count : goal.slice_bounds-going-count
 slice_bounds-going-count c = reaches c.self.inside.entries.now c.self.inside.count c.self.view_is c.requires
 
 pub slice_bounds-going-start : goal.slice_bounds-going-start
-slice_bounds-going-start c = reaches c.self.inside.entries.now c.self.inside.count c.self.view_is c.requires
+slice_bounds-going-start c = slice_bounds-going-count c
 
 pub loop-e-init : goal.loop-e-init
 loop-e-init c = all_left _ _ _
@@ -32,5 +33,4 @@ invariant_of-self c =
 pub returns : goal.returns
 returns c =
     let i = c.self.inside in
-    rw (put_same c.args.mark (i.count - c.args.mark) i.entries.now)
-    (cut i.entries.now i.count c.self.view_is c.args.mark (reaches i.entries.now i.count c.self.view_is c.requires))
+    rw (put_same c.args.mark (i.count - c.args.mark) i.entries.now) (cut i.entries.now i.count c.self.view_is c.args.mark c.requires)

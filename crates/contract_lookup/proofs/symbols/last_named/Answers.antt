@@ -10,11 +10,10 @@ use Rattle.contract_lookup.proofs.symbols.last_named.Goals.{then-here-wanted, el
 pub loop-at-init : goal.loop-at-init
 loop-at-init c = begun c.args.contract.sheet.now (item_number c.args.kind) c.args.name.0 c.args.contract.passed
 
-pub returns-then-wanted-here-clause-is : goal.returns-then-wanted-here-clause-is
-returns-then-wanted-here-clause-is c = (stopped c.loop-at.invariant c.loop-at-test.true (kind_past c.read_u16-here.ensures c.from-wanted.ensures c.if-wanted-here.true)).0
-
-pub returns-then-wanted-here-clause-stands : goal.returns-then-wanted-here-clause-stands
-returns-then-wanted-here-clause-stands c = (stopped c.loop-at.invariant c.loop-at-test.true (kind_past c.read_u16-here.ensures c.from-wanted.ensures c.if-wanted-here.true)).1
+pub returns-then-wanted-here : goal.returns-then-wanted-here
+returns-then-wanted-here c =
+    let r = stopped c.loop-at.invariant c.loop-at-test.true (kind_past c.read_u16-here.ensures c.from-wanted.ensures c.if-wanted-here.true) in
+    record { is = r.0; stands = r.1 }
 
 pub read_u16-requires : goal.read_u16-requires
 read_u16-requires c =
@@ -43,8 +42,5 @@ loop-at-preserved c =
       | else-here-wanted w ↦ moved w.found-is w.position-is (other_kind W l (kind_not r f w.if-here-wanted.false))
     ])
 
-pub returns-clause-is : goal.returns-clause-is
-returns-clause-is c = (walked c.loop-at.invariant c.loop-at-test.false).0
-
-pub returns-clause-stands : goal.returns-clause-stands
-returns-clause-stands c = (walked c.loop-at.invariant c.loop-at-test.false).1
+pub returns : goal.returns
+returns c = let r = walked c.loop-at.invariant c.loop-at-test.false in record { is = r.0; stands = r.1 }

@@ -13,15 +13,13 @@ pub returns-in_err-found : goal.returns-in_err-found
 returns-in_err-found c =
     let K = c.args.contract in
     let n = c.args.name.0 in
-    ap (option_of signature_of) c.from_residual.ensures ∙ no_signature (read_contract K.sheet.now) n (function_is n K.passed c.in_err-found.was c.last_named.ensures.is)
+    ap (option_of signature_of) c.from_residual.ensures ∙ no_signature (read_contract K.sheet.now) n (function_is n K.passed c.in_err-found.ensures.is)
 
 pub overflow_cast-result : goal.overflow_cast-result
-overflow_cast-result c =
-    let f = c.in_ok-found.found in
-    omega (arith, position_low {i = f.position} {p = f.at} c.args.name.0 c.args.contract.passed function c.in_ok-found.was c.last_named.ensures.is)
+overflow_cast-result c = omega (arith, position_low c.args.name.0 c.args.contract.passed function c.in_ok-found.ensures.is)
 
 pub returns : goal.returns
 returns c =
     let K = c.args.contract in
     let n = c.args.name.0 in
-    signature_here (read_contract K.sheet.now) n (function_is n K.passed c.in_ok-found.was c.last_named.ensures.is) (c.return_type-2.ensures ∙ ap sema.return_type c.return_type.ensures)
+    signature_here (read_contract K.sheet.now) n (function_is n K.passed c.in_ok-found.ensures.is) (c.return_type-2.ensures ∙ ap sema.return_type c.return_type.ensures)

@@ -15,4 +15,4 @@ unfolding record_bytes
 returns c =
     let a = c.args in
     put_kept (length_record a.kind a.first (part_in a.a) (part_in a.b) (part_in a.c) (ids_of a.ids.now)) (omega arith) (rw length-map (omega arith))
-    (rw length-map (c.put-to.ensures.stored then c.put-to-2.ensures.stored then c.put-to-3.ensures.stored then c.put-to-4.ensures.stored then c.put-to-5.ensures.stored then c.put-to-6.ensures.stored then c.put-to-7.ensures.stored then c.put_ids.ensures))
+    (rw length-map (c.put-to.ensures.put then c.put-to-2.ensures.put then c.put-to-3.ensures.put then c.put-to-4.ensures.put then c.put-to-5.ensures.put then c.put-to-6.ensures.put then c.put-to-7.ensures.put then c.put_ids.ensures))

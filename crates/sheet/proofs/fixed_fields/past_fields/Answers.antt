@@ -4,10 +4,10 @@ use Rattle.sheet.proofs.Fields.{all_passed, not_passed, passed}
 use Rattle.sheet.proofs.fixed_fields.past_fields.Goals as goal
 
 pub returns-in_err-place : goal.returns-in_err-place
-returns-in_err-place c = rw c.from_residual.ensures (not_passed c.loop-field.invariant _ c.loop-field-test.true c.past_field.ensures c.in_err-place.was)
+returns-in_err-place c = rw c.from_residual.ensures (not_passed c.loop-field.invariant _ c.loop-field-test.true c.in_err-place.ensures)
 
 pub loop-field-preserved : goal.loop-field-preserved
-loop-field-preserved c = passed c.loop-field.invariant _ c.loop-field-test.true c.past_field.ensures c.in_ok-place.was
+loop-field-preserved c = passed c.loop-field.invariant _ c.loop-field-test.true c.in_ok-place.ensures
 
 pub returns : goal.returns
 returns c = all_passed c.loop-field.invariant (omega arith)

@@ -1,7 +1,6 @@
 -- `sheet::limits::limits`: each record's way through the code, by `Within`. Assumes nothing.
 use Rattle.std.proofs.Common.{ℕ, ◌+◌, ap, arith}
-use Rattle.definitions.proofs.Results.{told}
-use Rattle.format.specs.Kinds.{number_of}
+use Rattle.format.specs.Kinds.{kind_number}
 use Rattle.sheet.specs.Forms.{limits_of}
 use Rattle.sheet.specs.Limits.{counts_of}
 use Rattle.ir.proofs.Exits.{exit}
@@ -10,9 +9,9 @@ use Rattle.sheet.proofs.limits.+limits.Goals as goal
 use Rattle.sheet.proofs.limits.+limits.Goals.{Else-too_wide, then-depth-gt-MOST_DEPTH-via-then-depth-gt-MOST_DEPTH, then-depth-gt-MOST_DEPTH-via-else-depth-gt-MOST_DEPTH+then-too_many, then-depth-gt-MOST_DEPTH-via-else-depth-gt-MOST_DEPTH+else-too_many+then-too_wide}
 
 -- a record within the limits
-cleared : {t : ℕ} (c : Else-too_wide t) → let a = c.args in let l = c.loop-place in Clear a.s.now a.at a.end a.depth l.place (l.place + c.read.result) (number_of c.kind_of-kind.result) (counts_of l.before)
+cleared : {t : ℕ} (c : Else-too_wide t) → let a = c.args in let l = c.loop-place in Clear a.s.now a.at a.end a.depth l.place (l.place + c.read.result) (kind_number c.record_kind-kind.result) (counts_of l.before)
 cleared c =
-    clears c.loop-place.invariant c.loop-place-test.true c.kind_of-kind.ensures c.if-depth-gt-MOST_DEPTH.false
+    clears c.loop-place.invariant c.loop-place-test.true c.record_kind-kind.ensures c.if-depth-gt-MOST_DEPTH.false
     c.too_many.ensures c.if-too_many.false c.too_wide.ensures c.if-too_wide.false (ap (λ (l : ℕ). c.loop-place.place + l) c.read.ensures.0)
 
 pub returns-then-depth-gt-MOST_DEPTH : goal.returns-then-depth-gt-MOST_DEPTH
@@ -20,11 +19,11 @@ unfolding limits_of
 returns-then-depth-gt-MOST_DEPTH t c =
     elim c.then-depth-gt-MOST_DEPTH.branch [
       | then-depth-gt-MOST_DEPTH-via-then-depth-gt-MOST_DEPTH w ↦
-          too_deep c.loop-place.invariant c.loop-place-test.true c.kind_of-kind.ensures w.if-depth-gt-MOST_DEPTH.true
+          too_deep c.loop-place.invariant c.loop-place-test.true c.record_kind-kind.ensures w.if-depth-gt-MOST_DEPTH.true
       | then-depth-gt-MOST_DEPTH-via-else-depth-gt-MOST_DEPTH+then-too_many w ↦
-          one_too_many c.loop-place.invariant c.loop-place-test.true c.kind_of-kind.ensures w.if-depth-gt-MOST_DEPTH.false w.too_many.ensures w.if-too_many.true
+          one_too_many c.loop-place.invariant c.loop-place-test.true c.record_kind-kind.ensures w.if-depth-gt-MOST_DEPTH.false w.too_many.ensures w.if-too_many.true
       | then-depth-gt-MOST_DEPTH-via-else-depth-gt-MOST_DEPTH+else-too_many+then-too_wide w ↦
-          too_wide_lem c.loop-place.invariant c.loop-place-test.true c.kind_of-kind.ensures w.if-depth-gt-MOST_DEPTH.false w.too_many.ensures w.if-too_many.false w.too_wide.ensures w.if-too_wide.true
+          too_wide_lem c.loop-place.invariant c.loop-place-test.true c.record_kind-kind.ensures w.if-depth-gt-MOST_DEPTH.false w.too_many.ensures w.if-too_many.false w.too_wide.ensures w.if-too_wide.true
     ]
 
 pub limits-requires : goal.limits-requires
@@ -35,12 +34,12 @@ limits-requires t c =
 pub returns-in_err-limits : goal.returns-in_err-limits
 unfolding limits_of
 returns-in_err-limits t c =
-    rw (exit c.from_residual.ensures.1) (ends_bad (cleared (goal.at.returns-in_err-limits t c).Else-too_wide) c.body_of-body.ensures (told limits_of c.in_err-limits.was c.limits.ensures))
+    rw (exit c.from_residual.ensures.1) (ends_bad (cleared (goal.at.returns-in_err-limits t c).Else-too_wide) c.body_of-body.ensures c.in_err-limits.ensures)
 
 pub loop-place-preserved-in_ok-limits : goal.loop-place-preserved-in_ok-limits
 unfolding limits_of
 loop-place-preserved-in_ok-limits t c =
-    goes_on (cleared (goal.at.loop-place-preserved-in_ok-limits t c).Else-too_wide) c.body_of-body.ensures c.add.ensures (told limits_of c.in_ok-limits.was c.limits.ensures)
+    goes_on (cleared (goal.at.loop-place-preserved-in_ok-limits t c).Else-too_wide) c.body_of-body.ensures c.add.ensures c.in_ok-limits.ensures
 
 pub loop-place-preserved : goal.loop-place-preserved
 loop-place-preserved t c =

@@ -1,6 +1,5 @@
 -- `sheet::records::records`: each record's way through the code, by `Checks`. Assumes nothing.
 use Rattle.std.proofs.Common.{arith}
-use Rattle.definitions.proofs.Results.{told}
 use Rattle.sheet.specs.Forms.{form_of}
 use Rattle.ir.proofs.Exits.{exit}
 use Rattle.sheet.proofs.Checks.{over, not_there, inside, goes_on, ends_bad, childless}
@@ -20,7 +19,7 @@ records-requires t c =
 pub returns-in_err-records : goal.returns-in_err-records
 unfolding form_of
 returns-in_err-records t c =
-    rw (exit c.from_residual-in_err-records.ensures.1) (ends_bad c.loop-place.invariant c.loop-place-test.true _ _ c.in_ok-next.ensures.is (told form_of c.in_err-records.was c.records.ensures))
+    rw (exit c.from_residual-in_err-records.ensures.1) (ends_bad c.loop-place.invariant c.loop-place-test.true _ _ c.in_ok-next.ensures.is c.in_err-records.ensures)
 
 pub returns-then-not-may_end : goal.returns-then-not-may_end
 unfolding form_of
@@ -38,7 +37,7 @@ unfolding form_of
 loop-place-preserved t c =
     goes_on c.loop-place.invariant c.loop-place-test.true _ _ c.in_ok-next.ensures.is
     (elim c.if-next.branch [
-      | then-next+in_ok-records w ↦ told form_of w.in_ok-records.was w.records.ensures
+      | then-next+in_ok-records w ↦ w.in_ok-records.ensures
       | else-next+else-not-may_end w ↦
           childless c.loop-place.invariant c.loop-place-test.true _ _ c.in_ok-next.ensures.is w.if-next.false w.may_end.ensures w.if-not-may_end.false
     ])

@@ -1,15 +1,16 @@
-use mathlib.Core.Path.{ap, ◌∙◌}
+use mathlib.Core.Path.{ap, sym, ◌∙◌}
 use Rattle.ir.specs.Answers.{option_of}
 use Rattle.contract_nodes.specs.Nodes.{function_in}
-use Rattle.contract_lookup.proofs.Placing.{no_function_lem, function_there}
+use Rattle.contract_lookup.specs.Answers.{second}
+use Rattle.contract_lookup.proofs.Symbolic.{function_is}
 use Rattle.contract_lookup.proofs.items.Functions.named.Goals as goal
 
 pub returns-in_err-at-clause-is : goal.returns-in_err-at-clause-is
 returns-in_err-at-clause-is c =
     let l = c.args.self.now in
-    ap (option_of function_in) c.from_residual.ensures ∙ no_function_lem c.args.name.0 l.contract.passed c.in_err-at.was (c.last_place.ensures 4 (rw c.as_slice.ensures.value l.listed))
+    ap (option_of function_in) c.from_residual.ensures ∙ ap second (function_is c.args.name.0 l.contract.passed (sym (c.in_err-at.ensures 4 (rw c.as_slice.ensures.value l.listed))))
 
 pub returns-clause-is : goal.returns-clause-is
 returns-clause-is c =
     let l = c.args.self.now in
-    function_there c.args.name.0 l.contract.passed c.in_ok-at.was (c.last_place.ensures 4 (rw c.as_slice.ensures.value l.listed))
+    ap second (function_is c.args.name.0 l.contract.passed (sym (c.in_ok-at.ensures 4 (rw c.as_slice.ensures.value l.listed)).1))

@@ -7,14 +7,12 @@ use Rattle.definitions.specs.Ast.{Param}
 use Rattle.definitions.specs.Fields.{le}
 use Rattle.contract_nodes.specs.Nodes.{function_in, param_is}
 use Rattle.contract_nodes.specs.declared.contract.Function.{Function}
-use Rattle.contract_nodes.proofs.Standing.{ready}
-use Rattle.contract_nodes.proofs.Steps.{param_at, params_count}
-use Rattle.contract_nodes.proofs.Tops.{FunctionAt, function_at_lem}
+use Rattle.contract_nodes.proofs.Steps.{param_at, params_count, function_here, FunctionHere}
 use Rattle.contract_nodes.proofs.contract.Function.param.Goals as goal
 
 -- where the i-th parameter stands
 record Room (f : Function) (i : ℕ) : Type 0 where
-  at : FunctionAt f.contract.sheet.now f.at 39
+  at : FunctionHere f
   below : i < le 2 f.contract.sheet.now (f.at + 12)
   few : i < 16
   room : f.at + 18 + 4 * i ≤ length f.contract.sheet.now
@@ -22,7 +20,7 @@ record Room (f : Function) (i : ℕ) : Type 0 where
 
 room_of : (f : Function) (i : ℕ) → i < length (function_in f).params → Room f i
 room_of f i h =
-    let a : FunctionAt f.contract.sheet.now f.at 39 = function_at_lem (ready {d = 39} f.ready) in
+    let a : FunctionHere f = function_here f in
     let b : i < le 2 f.contract.sheet.now (f.at + 12) = omega (arith, h, params_count a) in
     record { at = a; below = b; few = omega (arith, b, a.few); room = omega (arith, b, a.fits, a.inside); short = f.contract.passed.short }
 

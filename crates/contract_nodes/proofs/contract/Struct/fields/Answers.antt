@@ -6,15 +6,15 @@ use Rattle.contract_nodes.specs.Ready.{params_from}
 use Rattle.contract_nodes.specs.declared.contract.Struct.{Struct}
 use Rattle.contract_nodes.proofs.Standing.{ready}
 use Rattle.contract_nodes.proofs.Children.{size_fits}
-use Rattle.contract_nodes.proofs.Parts.{stop_is}
-use Rattle.contract_nodes.proofs.Tops.{StructAt, struct_at}
+use Rattle.contract_nodes.proofs.Steps.{stop_is, struct_here}
+use Rattle.contract_nodes.proofs.Tops.{StructAt}
 use Rattle.contract_nodes.proofs.contract.Struct.fields.Goals as goal
 
 abbrev count : Struct → ℕ
-count x = (struct_at (ready {d = 39} x.ready)).0
+count x = (struct_here x).0
 
 at_of : (x : Struct) → StructAt x.contract.sheet.now x.at (count x)
-at_of x = (struct_at (ready {d = 39} x.ready)).1
+at_of x = (struct_here x).1
 
 left_is : (x : Struct) {size : ℕ} → size ≡ le 4 x.contract.sheet.now x.at → size ≡ 8 + 4 * count x
 left_is x e = omega (arith, (at_of x).ends, stop_is x.contract.sheet.now x.at e)

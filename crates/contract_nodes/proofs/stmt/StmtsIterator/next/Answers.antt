@@ -1,3 +1,4 @@
+-- `next` of statements: `stepped` has what the three lists of this crate have in common; each is a type of its own, so each has its answers. Assumes nothing.
 use mathlib.Core.Path.{refl, ap, sym, ◌∙◌}
 use Prim.Native.Nat.{◌-◌}
 use native.Mathlib.Omega.{arith}

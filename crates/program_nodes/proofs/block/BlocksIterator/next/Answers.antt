@@ -3,7 +3,7 @@ use mathlib.Core.Path.{refl, ap}
 use Prim.Native.Nat.{ℕ, ◌+◌}
 use native.Mathlib.Omega.{arith}
 use Rattle.definitions.proofs.Sheets.Steps.{low}
-use Rattle.program_nodes.proofs.Stand.{good, kept}
+use Rattle.sheet.proofs.Standing.{good, kept}
 use Rattle.program_nodes.proofs.Walk.{block_here_lem}
 use Rattle.program_nodes.proofs.Takes.{first_block, no_block}
 use Rattle.program_nodes.proofs.block.BlocksIterator.next.Goals as goal

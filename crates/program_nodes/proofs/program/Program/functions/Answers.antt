@@ -1,5 +1,5 @@
 -- `program_nodes::program::Program::functions`: they stand behind the head. Assumes nothing.
-use Rattle.program_nodes.proofs.Stand.{good}
+use Rattle.sheet.proofs.Standing.{good}
 use Rattle.program_nodes.proofs.Facts.{program_is}
 use Rattle.program_nodes.proofs.program.Program.functions.Goals as goal
 

@@ -11,3 +11,7 @@ returns-in_err-program_form-clause-is c = fault_of c.from_residual.result c.from
 pub invariant_of-result : goal.invariant_of-result
 unfolding form_of
 invariant_of-result c = record { passed = sym c.in_ok-program_form.ensures }
+
+pub returns-clause-is : goal.returns-clause-is
+unfolding form_of
+returns-clause-is c = c.in_ok-program_form.ensures

@@ -1,2 +1,0 @@
-pub mod ParamSteps
-pub mod FunctionSteps
