@@ -12,7 +12,7 @@ NEEDED = ["All"]
 # Where a change of a file is likely to be met first; the other crates follow in the order of crates.txt.
 FIRST_MET = {
     "Lower": ["lower_walk"], "Sema": ["lower_walk"], "Analyze": ["analyze_walk"], "Ast": ["lower_walk"], "Verify": ["verify"], "Records": ["sheet"], "Grammar": ["sheet"], "Fields": ["reader"],
-    "ContractSheet": ["contract_nodes", "lower_walk"], "ProgramSheet": ["verify", "lower_walk"], "Answers": ["verify", "lower"], "Lines": ["lines"], "Names": ["contract_lookup"],
+    "ContractSheet": ["contract_nodes", "lower_walk"], "ProgramSheet": ["verify", "lower_walk"], "Answers": ["verify", "lower"], "Lines": ["lower_line"], "Names": ["contract_lookup"],
     "Ir": ["ir", "lower_walk"], "InstrTable": ["ir", "lower_walk"],
 }
 # A check that takes more seconds of a processor than this is stopped, and counts as refused: unchanged, the rows take 2 and a crate 60 at most.

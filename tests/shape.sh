@@ -1,6 +1,6 @@
 #!/usr/bin/env bash
-# The limits that the crates keep, each offender by its file and line: a function has at most 8 parameters (one exported to C aside) and a body of at most 40 lines as laid out, a line of a
-# promise at most 160 characters, a file of src/, specs/ or proofs/ at most 500 lines; src/ and specs/ cite no proof; one name is declared for one thing.
+# The limits that the crates keep, each offender by its file and line: a function has at most 8 parameters (one exported to C aside) and a body of at most 40 lines as laid out, a clause of a
+# promise at most 160 characters (the spaces at the start of its lines do not count), a file of src/, specs/ or proofs/ at most 500 lines; src/ and specs/ cite no proof; one name is declared for one thing.
 set -u
 cd "$(dirname "$0")/.." && . tests/part.sh || exit 2
 
@@ -18,7 +18,7 @@ functions() {
         if (c == "," && depth == 1) { count += part; part = 0 } else if (c != " " && !(c == "(" && depth == 1)) part = 1
       }
     }
-    FNR == 1 { reading = waiting = inside = 0 }
+    FNR == 1 { reading = waiting = inside = clause = 0 }
     { line = $0; sub("//.*", "", line); rest = "" }
     !reading && !inside && match(line, /^ *(pub(\(crate\))? )?(extern "C" )?fn /) {
       exported = line ~ /extern "C" fn /
@@ -42,10 +42,15 @@ functions() {
       if (FNR - inside - 1 > 40) said("bodies", start, "the body of " name " has " FNR - inside - 1 " lines")
       inside = 0
     }
-    /^ *(ensures|requires) / {
-      text = $0
+    /^ *(ensures|requires) / { clause = FNR; text = ""; open = 0 }
+    clause {
+      sub("^ *", "", line)
+      text = text (text == "" ? "" : " ") line
+      open += gsub("{", "{", line) - gsub("}", "}", line)
+      if (open > 0) next
       gsub(/[\200-\277]/, "", text)
-      if (length(text) > 160) said("promises", FNR, "a line of a promise has " length(text) " characters")
+      if (length(text) > 160) said("promises", clause, "a clause of a promise has " length(text) " characters")
+      clause = 0
     }' {} +
 }
 
@@ -60,7 +65,7 @@ twice+=(Expr Stmt Instruction Terminator Function Functions Param)
 # The names that are declared twice and are not of those, and those that are not declared twice.
 names() {
   { grep -oE '^((abbrev|unfoldable|opaque|data|record|pub) )*pub ((abbrev|unfoldable|opaque|data|record) )*[^ :({]+' crates/*/specs/*.antt
-    grep -oE '^pub (struct|enum) [A-Za-z0-9]+' crates/*/src/*.rt; } | awk -v allowed=" ${twice[*]} " '
+    grep -oE '^pub(\(crate\))? (struct|enum) [A-Za-z0-9]+' crates/*/src/*.rt; } | awk -v allowed=" ${twice[*]} " '
     { file = $1; sub(":.*", "", file); sub("^[^:]*:", ""); name = $NF }
     name == "mod" || (file, name) in seen { next }
     { seen[file, name]; kind = file ~ /[.]rt$/; n[name, kind]++; files[name, kind] = files[name, kind] " " file; all[name, kind] = name }

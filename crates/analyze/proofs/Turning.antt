@@ -8,8 +8,8 @@ use Rattle.ir.specs.declared.FunctionId.{FunctionId}
 use Rattle.contract_nodes.specs.Nodes.{function_in}
 use Rattle.contract_nodes.specs.declared.contract.Function.{Function}
 use Rattle.contract_lookup.specs.Walked.{left_in, NextFunction}
-use Rattle.contract_lookup.specs.declared.items.FunctionIter.{FunctionIter}
-use Rattle.contract_lookup.specs.declared.items.Functions.{Functions}
+use Rattle.contract_lookup.specs.declared.declarations.FunctionIter.{FunctionIter}
+use Rattle.contract_lookup.specs.declared.declarations.Functions.{Functions}
 use Rattle.analyze_env.specs.Names.{Names}
 use Rattle.analyze.specs.Whole.{Empty}
 use Rattle.analyze_walk.specs.Stops.{Checking, check_function, check_functions}

@@ -11,10 +11,10 @@ ghost use Rattle.analyze_state.specs.Errors.{error_of};
 ghost use Rattle.analyze_state.specs.State.{sheet_of, analyzed_contract, OfSheet};
 ghost use Rattle.analyze.specs.Whole.{answer_of, check_bodies, Empty};
 
-use analyze_env::{ALL, Entry, Env, FEW, Link, Ty};
+use analyze_env::{ALL, Binding, Env, FEW, Link, Ty};
 use analyze_state::{Analyzer, SemaError};
 use analyze_stmts::analyze_stmts;
-use contract_lookup::items::{Functions, Structs};
+use contract_lookup::declarations::{Functions, Structs};
 use contract_lookup::types::{from_str, return_type};
 use contract_nodes::{Contract, Function};
 use ir::IrType;
@@ -109,9 +109,9 @@ fn analyze_with<const NAMES: usize, const CHAINS: usize>(
     requires chains { (1024 ≤ CHAINS) × (CHAINS ≤ 65536) }
     ensures { done_of error_of result ≡ check_bodies (contract_in contract.entry) }
 {
-    let mut entries = [Entry::BLANK; NAMES];
+    let mut bindings = [Binding::BLANK; NAMES];
     let mut heads = [Link::NONE; CHAINS];
-    let mut env = Env::new(&mut entries, &mut heads);
+    let mut env = Env::new(&mut bindings, &mut heads);
     analyze_functions(contract, &mut env)
 }
 

@@ -1,4 +1,4 @@
--- The newest of each chain, by heads and links: a lookup along the links finds what a walk over all entries finds; a store keeps them right, and so does undoing
+-- The newest of each chain, by heads and links: a lookup along the links finds what a walk over all bindings finds; a store keeps them right, and so does undoing
 -- it. Assumes nothing.
 use mathlib.Core.Path.{◌≡◌, refl, ap, sym, ◌∙◌, subst}
 use mathlib.Core.List.{List, [], ◌∷◌, ◌++◌, append-nil}
@@ -14,13 +14,13 @@ use borrow.Author.Tests.{eq-eqb, ne_eqb}
 use Rattle.definitions.specs.Analyze.{Ty, Env, get}
 use Rattle.definitions.proofs.Results.{by_eq}
 use Rattle.analyze_env.specs.Types.{as_ty}
-use Rattle.analyze_env.specs.Entries.{no_link, blank, entry_at, position_of, env_of, chain_of, chain_at, newest, Known}
+use Rattle.analyze_env.specs.Bindings.{no_link, blank, binding_at, position_of, env_of, chain_of, chain_at, newest, Known}
 use Rattle.analyze_env.specs.declared.Link.{Link}
-use Rattle.analyze_env.specs.declared.Entry.{Entry}
+use Rattle.analyze_env.specs.declared.Binding.{Binding}
 use Rattle.analyze_env.specs.Names.{Names, named, truncated}
 
 -- THE NEWEST OF A CHAIN, of w chains
-module _ (w : ℕ) (l : List Entry) (b : ℕ) where
+module _ (w : ℕ) (l : List Binding) (b : ℕ) where
   this_one : (k : ℕ) → chain_at w l k ≡ b → newest w l b (suc k) ≡ suc k
   unfolding newest
   this_one k q = rw (eq-eqb (chain_at w l k) b q)
@@ -52,14 +52,14 @@ is_none zero e = refl
 is_none (suc n) e = absurd cc
 
 -- LOOKING A NAME UP
-module _ (l : List Entry) (n : ℕ) where
-  this_name : (k : ℕ) → (entry_at l k).name.0 ≡ n → some (as_ty (entry_at l k).ty) ≡ get n (env_of l (suc k))
+module _ (l : List Binding) (n : ℕ) where
+  this_name : (k : ℕ) → (binding_at l k).name.0 ≡ n → some (as_ty (binding_at l k).ty) ≡ get n (env_of l (suc k))
   unfolding env_of
-  this_name k q = rw (eq-eqb ((entry_at l k).name.0) n q, get)
+  this_name k q = rw (eq-eqb ((binding_at l k).name.0) n q, get)
 
-  other_name : (k : ℕ) → ((entry_at l k).name.0 ≡ n → ⊥) → get n (env_of l (suc k)) ≡ get n (env_of l k)
+  other_name : (k : ℕ) → ((binding_at l k).name.0 ≡ n → ⊥) → get n (env_of l (suc k)) ≡ get n (env_of l k)
   unfolding env_of
-  other_name k u = rw (ne_eqb ((entry_at l k).name.0) n u, get)
+  other_name k u = rw (ne_eqb ((binding_at l k).name.0) n u, get)
 
   no_name : none ≡ get n (env_of l 0)
   unfolding env_of
@@ -73,50 +73,50 @@ module _ (l : List Entry) (n : ℕ) where
       (λ q. ap (λ i. get n (env_of l i)) (this_one w l (chain_of w n) k q))
       (λ u. ap (λ i. get n (env_of l i)) (not_this w l (chain_of w n) k u) ∙ (newest_get w k ∙ sym (other_name k (λ e. u (ap (chain_of w) e)))))
 
--- what is left below i gives what all entries give, and i is an entry of the name's chain
-pub record Looking (w : ℕ) (l : List Entry) (count n i : ℕ) : Type 0 where
+-- what is left below i gives what all bindings give, and i is a binding of the name's chain
+pub record Looking (w : ℕ) (l : List Binding) (count n i : ℕ) : Type 0 where
   pub low : i ≤ count
   pub chain : 0 < i → chain_at w l (i - 1) ≡ chain_of w n
   pub same : get n (env_of l i) ≡ get n (env_of l count)
 
-at_newest : (w : ℕ) (l : List Entry) (count n k : ℕ) → k ≤ count → get n (env_of l k) ≡ get n (env_of l count) → Looking w l count n (newest w l (chain_of w n) k)
+at_newest : (w : ℕ) (l : List Binding) (count n k : ℕ) → k ≤ count → get n (env_of l k) ≡ get n (env_of l count) → Looking w l count n (newest w l (chain_of w n) k)
 at_newest w l count n k h e = record {
   low = omega (arith, newest_low w l (chain_of w n) k);
   chain = newest_chain w l (chain_of w n) k;
   same = newest_get l n w k ∙ e;
 }
 
-pub begun : {l : List Entry} {heads : List Link} {count b n : ℕ} → Known l heads count → (b ≡ chain_of (length heads) n) × (b < length heads) → Looking (length heads) l count n (get_or heads b no_link).0
+pub begun : {l : List Binding} {heads : List Link} {count b n : ℕ} → Known l heads count → (b ≡ chain_of (length heads) n) × (b < length heads) → Looking (length heads) l count n (get_or heads b no_link).0
 begun {l} {heads} {count} {b} {n} K (of, in_reach) = rw (K.head b in_reach, of) (at_newest (length heads) l count n count (omega arith) refl)
 
-pub none_left : {w : ℕ} {l : List Entry} {count n i : ℕ} → Looking w l count n i → none ≡ position_of i → none ≡ get n (env_of l count)
+pub none_left : {w : ℕ} {l : List Binding} {count n i : ℕ} → Looking w l count n i → none ≡ position_of i → none ≡ get n (env_of l count)
 none_left {w} {l} {count} {n} {i} G h = let e : i ≡ 0 = is_none i h in no_name l n ∙ rw e at G.same
 
 -- a link that is i + 1
-module _ {l : List Entry} {heads : List Link} {count n m i : ℕ} (K : Known l heads count) (G : Looking (length heads) l count n m) (to : some i ≡ position_of m) where
+module _ {l : List Binding} {heads : List Link} {count n m i : ℕ} (K : Known l heads count) (G : Looking (length heads) l count n m) (to : some i ≡ position_of m) where
   next : m ≡ i + 1
   next = is_next m to
 
   same_here : get n (env_of l (suc i)) ≡ get n (env_of l count)
   same_here = let e : suc i ≡ m = omega (arith, next) in rw e G.same
 
-  pub hit : (entry_at l i).name.0 ≡ n → some (as_ty (entry_at l i).ty) ≡ get n (env_of l count)
+  pub hit : (binding_at l i).name.0 ≡ n → some (as_ty (binding_at l i).ty) ≡ get n (env_of l count)
   hit q = this_name l n i q ∙ same_here
 
-  linked_to : (entry_at l i).link.0 ≡ newest (length heads) l (chain_of (length heads) n) i
+  linked_to : (binding_at l i).link.0 ≡ newest (length heads) l (chain_of (length heads) n) i
   linked_to =
       let e : m - 1 ≡ i = omega (arith, next) in
       K.link i (omega (arith, G.low, next)) ∙ ap (λ b. newest (length heads) l b i) (rw e at G.chain (omega (arith, next)))
 
-  pub falls : (entry_at l i).link.0 < m
+  pub falls : (binding_at l i).link.0 < m
   falls = omega (arith, next, linked_to, newest_low (length heads) l (chain_of (length heads) n) i)
 
-  pub miss : ((entry_at l i).name.0 ≡ n → ⊥) → Looking (length heads) l count n (entry_at l i).link.0
+  pub miss : ((binding_at l i).name.0 ≡ n → ⊥) → Looking (length heads) l count n (binding_at l i).link.0
   miss u = rw linked_to (at_newest (length heads) l count n i (omega (arith, G.low, next)) (sym (other_name l n i u) ∙ same_here))
 
--- A STORE: entries below its place do not see it
-module _ (l : List Entry) (n : ℕ) (e : Entry) where
-  below_set : (i : ℕ) → i < n → entry_at (set l n e) i ≡ entry_at l i
+-- A STORE: bindings below its place do not see it
+module _ (l : List Binding) (n : ℕ) (e : Binding) where
+  below_set : (i : ℕ) → i < n → binding_at (set l n e) i ≡ binding_at l i
   below_set i h = get_or-set_other l n i e blank (λ q. omega arith)
 
   env_set : (k : ℕ) → k ≤ n → env_of (set l n e) k ≡ env_of l k
@@ -138,13 +138,13 @@ stored heads b v right at_b others i h =
     (λ u. ap (λ (x : Link). x.0) (get_or-set_other heads b i v no_link u) ∙ others i h u)
 
 -- ONE MORE: what was known before is known as it was
-module _ {l : List Entry} {heads : List Link} {n name : ℕ} {t : Ty} {b : ℕ} (e : Entry) (to : Link) (K : Known l heads n) (room : n < length l)
-    (chain-is : (b ≡ chain_of (length heads) name) × (b < length heads)) (entry-is : (e.name.0 ≡ name) × (e.link.0 ≡ (get_or heads b no_link).0) × (as_ty e.ty ≡ t)) (to-is : to.0 ≡ n + 1) where
-  here : entry_at (set l n e) n ≡ e
+module _ {l : List Binding} {heads : List Link} {n name : ℕ} {t : Ty} {b : ℕ} (e : Binding) (to : Link) (K : Known l heads n) (room : n < length l)
+    (chain-is : (b ≡ chain_of (length heads) name) × (b < length heads)) (binding-is : (e.name.0 ≡ name) × (e.link.0 ≡ (get_or heads b no_link).0) × (as_ty e.ty ≡ t)) (to-is : to.0 ≡ n + 1) where
+  here : binding_at (set l n e) n ≡ e
   here = get_or-set_same l n e blank room
 
   chain_here : chain_at (length heads) (set l n e) n ≡ b
-  chain_here = rw (here, entry-is.0) (sym chain-is.0)
+  chain_here = rw (here, binding-is.0) (sym chain-is.0)
 
   head_after : (i : ℕ) → i < length heads → (get_or (set heads b to) i no_link).0 ≡ newest (length heads) (set l n e) i (n + 1)
   head_after =
@@ -152,10 +152,10 @@ module _ {l : List Entry} {heads : List Link} {n name : ℕ} {t : Ty} {b : ℕ} 
       (rw (to-is, add-one) (sym (this_one (length heads) (set l n e) b n chain_here)))
       (λ i h u. rw add-one (K.head i h ∙ sym (not_this (length heads) (set l n e) i n (λ q. u (sym q ∙ chain_here)) ∙ newest_set l n e (length heads) i n (omega arith))))
 
-  link_after : (i : ℕ) → i < n + 1 → (entry_at (set l n e) i).link.0 ≡ newest (length heads) (set l n e) (chain_at (length heads) (set l n e) i) i
+  link_after : (i : ℕ) → i < n + 1 → (binding_at (set l n e) i).link.0 ≡ newest (length heads) (set l n e) (chain_at (length heads) (set l n e) i) i
   link_after i h =
       by_eq i n
-      (λ q. rw (q, chain_here, newest_set l n e (length heads) b n (omega arith), here) (entry-is.1 ∙ K.head b chain-is.1))
+      (λ q. rw (q, chain_here, newest_set l n e (length heads) b n (omega arith), here) (binding-is.1 ∙ K.head b chain-is.1))
       (λ u.
       let v : i < n = omega arith in
       rw (below_set l n e i v, newest_set l n e (length heads) (chain_at (length heads) l i) i (omega arith)) (K.link i v))
@@ -171,17 +171,17 @@ module _ {l : List Entry} {heads : List Link} {n name : ℕ} {t : Ty} {b : ℕ} 
 
   pub one_named : {v : Names} → record { names = env_of l n; room = length l } ≡ v → record { names = env_of (set l n e) (n + 1); room = length (set l n e) } ≡ named name t v
   unfolding env_of
-  one_named view-is = rw (← view-is, length-set, add-one, here, entry-is.0, entry-is.2, env_set l n e n (omega arith))
+  one_named view-is = rw (← view-is, length-set, add-one, here, binding-is.0, binding-is.2, env_set l n e n (omega arith))
 
 -- ONE LESS
-module _ {l : List Entry} {heads : List Link} {n b : ℕ} {e : Entry} (K : Known l heads (suc n)) (here : entry_at l n ≡ e) (chain-is : (b ≡ chain_of (length heads) e.name.0) × (b < length heads)) where
+module _ {l : List Binding} {heads : List Link} {n b : ℕ} {e : Binding} (K : Known l heads (suc n)) (here : binding_at l n ≡ e) (chain-is : (b ≡ chain_of (length heads) e.name.0) × (b < length heads)) where
   its_chain : chain_at (length heads) l n ≡ b
-  its_chain = ap (λ (x : Entry). chain_of (length heads) x.name.0) here ∙ sym chain-is.0
+  its_chain = ap (λ (x : Binding). chain_of (length heads) x.name.0) here ∙ sym chain-is.0
 
   head_before : (i : ℕ) → i < length heads → (get_or (set heads b e.link) i no_link).0 ≡ newest (length heads) l i n
   head_before =
       stored heads b e.link (λ i. newest (length heads) l i n)
-      (sym (ap (λ (x : Entry). x.link.0) here) ∙ (K.link n (omega arith) ∙ ap (λ i. newest (length heads) l i n) its_chain))
+      (sym (ap (λ (x : Binding). x.link.0) here) ∙ (K.link n (omega arith) ∙ ap (λ i. newest (length heads) l i n) its_chain))
       (λ i g u. K.head i g ∙ not_this (length heads) l i n (λ q. u (sym q ∙ its_chain)))
 
   dropped : Known l (set heads b e.link) n
@@ -193,21 +193,21 @@ module _ {l : List Entry} {heads : List Link} {n b : ℕ} {e : Entry} (K : Known
     link = simp length-set (λ i g. K.link i (omega arith));
   }
 
--- UNDOING, of the entries behind the first m: as many of them are known as are left
-pub record Undoing (m : ℕ) (going left : List Entry) (initial heads : List Link) : Type 0 where
-  pub behind : List Entry
+-- UNDOING, of the bindings behind the first m: as many of them are known as are left
+pub record Undoing (m : ℕ) (going left : List Binding) (initial heads : List Link) : Type 0 where
+  pub behind : List Binding
   pub whole : left ++ behind ≡ going
-  pub known : (l : List Entry) → ((i : ℕ) → i < length going → entry_at l (m + i) ≡ get_or going i blank) → Known l initial (m + length going) → Known l heads (m + length left)
+  pub known : (l : List Binding) → ((i : ℕ) → i < length going → binding_at l (m + i) ≡ get_or going i blank) → Known l initial (m + length going) → Known l heads (m + length left)
 
-pub all_left : (m : ℕ) (going : List Entry) (heads : List Link) → Undoing m going going heads heads
+pub all_left : (m : ℕ) (going : List Binding) (heads : List Link) → Undoing m going going heads heads
 all_left m going heads = record { behind = []; whole = append-nil going; known = λ l same K. K }
 
-module _ {m : ℕ} {going left : List Entry} {initial heads : List Link} (U : Undoing m going left initial heads) where
-  pub newest_undone : (before : List Entry) (e : Entry) {b : ℕ} → left ≡ before ++ e ∷ [] → (b ≡ chain_of (length heads) e.name.0) × (b < length heads)
+module _ {m : ℕ} {going left : List Binding} {initial heads : List Link} (U : Undoing m going left initial heads) where
+  pub newest_undone : (before : List Binding) (e : Binding) {b : ℕ} → left ≡ before ++ e ∷ [] → (b ≡ chain_of (length heads) e.name.0) × (b < length heads)
       → Undoing m going before initial (set heads b e.link)
   newest_undone before e left-is chain-is =
-      let whole : before ++ e ∷ U.behind ≡ going = sym (append_snoc before e U.behind) ∙ (ap (λ (es : List Entry). es ++ U.behind) (sym left-is) ∙ U.whole) in
-      let at : get_or going (length before) blank ≡ e = ap (λ (es : List Entry). get_or es (length before) blank) (sym whole) ∙ get_or-append_seam before e U.behind blank in
+      let whole : before ++ e ∷ U.behind ≡ going = sym (append_snoc before e U.behind) ∙ (ap (λ (es : List Binding). es ++ U.behind) (sym left-is) ∙ U.whole) in
+      let at : get_or going (length before) blank ≡ e = ap (λ (es : List Binding). get_or es (length before) blank) (sym whole) ∙ get_or-append_seam before e U.behind blank in
       let low : length before < length going = omega (arith, sym (ap length whole) ∙ length-append before (e ∷ U.behind)) in
       let more : m + length left ≡ suc (m + length before) = omega (arith, ap length left-is ∙ length-append before (e ∷ [])) in
       record {
@@ -216,36 +216,36 @@ module _ {m : ℕ} {going left : List Entry} {initial heads : List Link} (U : Un
         known = λ l same K. dropped (subst (Known l heads) more (U.known l same K)) (same (length before) low ∙ at) chain-is;
       }
 
-  pub all_undone : {l : List Entry} {n : ℕ} → Known l initial n → m ≤ n → going ≡ take (n - m) (drop m l) → length left ≡ 0 → Known l heads m
+  pub all_undone : {l : List Binding} {n : ℕ} → Known l initial n → m ≤ n → going ≡ take (n - m) (drop m l) → length left ≡ 0 → Known l heads m
   all_undone {l} {n} K h is end =
       let long : m + length going ≡ n = omega (arith, ap length is ∙ mid_len m n l K.room) in
       let nothing : m + length left ≡ m = omega (arith, end) in
       subst (Known l heads) nothing (U.known l
-      (λ i g. sym (ap (λ (es : List Entry). get_or es i blank) is ∙ (get_or-take (n - m) (drop m l) i blank (omega (arith, g, long)) ∙ get_or-drop m l i blank)))
+      (λ i g. sym (ap (λ (es : List Binding). get_or es i blank) is ∙ (get_or-take (n - m) (drop m l) i blank (omega (arith, g, long)) ∙ get_or-drop m l i blank)))
       (subst (Known l initial) (sym long) K))
 
 -- NONE: heads that are no links, and those of an array of them
-pub none_known : (l : List Entry) (heads : List Link) → length l ≤ 65535 → 1024 ≤ length heads → ((i : ℕ) → i < length heads → (get_or heads i no_link).0 ≡ 0) → Known l heads 0
+pub none_known : (l : List Binding) (heads : List Link) → length l ≤ 65535 → 1024 ≤ length heads → ((i : ℕ) → i < length heads → (get_or heads i no_link).0 ≡ 0) → Known l heads 0
 unfolding newest
 none_known l heads short wide zeros = record { room = omega arith; short = short; wide = wide; head = zeros; link = λ i h. absurd (omega arith) }
 
-pub none_linked : (l : List Entry) (n : ℕ) → length l ≤ 65535 → 1024 ≤ n → Known l (replicate n no_link) 0
+pub none_linked : (l : List Binding) (n : ℕ) → length l ≤ 65535 → 1024 ≤ n → Known l (replicate n no_link) 0
 none_linked l n short wide =
     none_known l (replicate n no_link) short (rw length-replicate wide) (λ i h. ap (λ (x : Link). x.0) (get_or-replicate n i no_link no_link (omega (arith, length-replicate {A = Link} n no_link))))
 
 -- WHAT A CONTRACT SEES
-pub env_length : (l : List Entry) (n : ℕ) → length (env_of l n) ≡ n
+pub env_length : (l : List Binding) (n : ℕ) → length (env_of l n) ≡ n
 unfolding env_of
 env_length l zero = refl
 env_length l (suc n) = omega (arith, env_length l n)
 
-env_drop : (l : List Entry) (m k n : ℕ) → n ≡ k + m → drop k (env_of l n) ≡ env_of l m
+env_drop : (l : List Binding) (m k n : ℕ) → n ≡ k + m → drop k (env_of l n) ≡ env_of l m
 unfolding env_of
 env_drop l m zero n e = let q : n ≡ m = omega arith in rw q
 env_drop l m (suc k) zero e = absurd (omega arith)
 env_drop l m (suc k) (suc n) e = env_drop l m k n (omega arith)
 
-module _ (l : List Entry) (n : ℕ) {v : Names} (view-is : record { names = env_of l n; room = length l } ≡ v) where
+module _ (l : List Binding) (n : ℕ) {v : Names} (view-is : record { names = env_of l n; room = length l } ≡ v) where
   pub names_are : env_of l n ≡ v.names
   names_are = ap (λ (w : Names). w.names) view-is
 

@@ -1,4 +1,4 @@
 pub mod Types
-pub mod Entries
+pub mod Bindings
 pub mod Names
 pub mod Env

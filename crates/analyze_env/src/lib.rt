@@ -6,7 +6,7 @@ ghost use Rattle.definitions.specs.Analyze as analyze;
 ghost use Rattle.definitions.specs.Analyze.{get};
 ghost use Rattle.ir.specs.Answers.{option_of};
 ghost use Rattle.analyze_env.specs.Types.{as_ty};
-ghost use Rattle.analyze_env.specs.Entries.{no_link, position_of, chain_of};
+ghost use Rattle.analyze_env.specs.Bindings.{no_link, position_of, chain_of};
 
 use ir::{IrType, Name};
 use std::marker::Model;
@@ -31,7 +31,7 @@ pub fn differs(a: Ty, b: Ty) -> bool
     a != b && a != Ty::Unknown && b != Ty::Unknown
 }
 
-// The position of an entry, or none. Zeros are none, so that new heads are cleared memory; an Option of the position has four bytes, and
+// The position of a binding, or none. Zeros are none, so that new heads are cleared memory; an Option of the position has four bytes, and
 // would double the heads, 131 kB of stack.
 #[derive(Clone, Copy, Debug, PartialEq, Eq)]
 pub struct Link(u16);
@@ -39,7 +39,7 @@ pub struct Link(u16);
 impl Link {
     pub const NONE: Link = Link(0);
 
-    // To an entry.
+    // To a binding.
     fn to(position: usize) -> Link
         requires { position < 65535 }
         ensures { result.0 ≡ position + 1 }
@@ -54,17 +54,17 @@ impl Link {
     }
 }
 
-// A name with its type, and the link to the entry before it of its chain.
+// A name with its type, and the link to the binding before it of its chain.
 #[derive(Clone, Copy, Debug, PartialEq, Eq)]
-pub struct Entry {
+pub struct Binding {
     name: Name,
     link: Link,
     ty: Ty,
 }
 
-impl Entry {
-    // What an entry is before it is written: zeros.
-    pub const BLANK: Entry = Entry {
+impl Binding {
+    // What a binding is before it is written: zeros.
+    pub const BLANK: Binding = Binding {
         name: Name::EMPTY,
         link: Link::NONE,
         ty: Ty::Unknown,
@@ -72,7 +72,7 @@ impl Entry {
 }
 
 // The chain of a name.
-#[tactic(auto, using(std::proofs::lemmas::Bool::Decides::nat_tests), unfolding(crate::specs::Entries::chain_of))]
+#[tactic(auto, using(std::proofs::lemmas::Bool::Decides::nat_tests), unfolding(crate::specs::Bindings::chain_of))]
 fn chain_of(name: Name, chains: usize) -> usize
     requires { 1024 ≤ chains }
     ensures { (result ≡ chain_of chains name.0) × (result < chains) }
@@ -84,11 +84,11 @@ fn chain_of(name: Name, chains: usize) -> usize
     number
 }
 
-// The first `count` entries are the names, newest last. Each chain of names has a head, the link to its newest entry. It stands for the Rust's
-// `HashMap`: without a heap (a rule of the project) its chains are links between the entries of a lent array, and a link is an index.
+// The first `count` bindings are the names, newest last. Each chain of names has a head, the link to its newest binding. It stands for the Rust's
+// `HashMap`: without a heap (a rule of the project) its chains are links between the bindings of a lent array, and a link is an index.
 #[derive(Drop)]
 pub struct Env<'a> {
-    entries: &'a mut [Entry],
+    bindings: &'a mut [Binding],
     heads: &'a mut [Link],
     count: usize,
 }
@@ -109,14 +109,14 @@ impl<'a> Model for Env<'a> {
 impl<'a> Env<'a> {
     ghost use Rattle.analyze_env.specs.Names.{Names, named, truncated};
 
-    #[tactic(auto, unfolding(crate::specs::Entries::env_of))]
-    pub fn new(entries: &'a mut [Entry], heads: &'a mut [Link]) -> Env<'a>
+    #[tactic(auto, unfolding(crate::specs::Bindings::env_of))]
+    pub fn new(bindings: &'a mut [Binding], heads: &'a mut [Link]) -> Env<'a>
         requires heads_are_none { heads.old ≡ replicate (length heads.old) no_link }
-        requires sizes { (length entries.old ≤ 65535) × (1024 ≤ length heads.old) }
-        ensures { result ≡ record { names = []; room = length entries.old } }
+        requires sizes { (length bindings.old ≤ 65535) × (1024 ≤ length heads.old) }
+        ensures { result ≡ record { names = []; room = length bindings.old } }
     {
         Env {
-            entries,
+            bindings,
             heads,
             count: 0,
         }
@@ -129,14 +129,14 @@ impl<'a> Env<'a> {
         self.count
     }
 
-    // The type of the newest entry of a name.
+    // The type of the newest binding of a name.
     pub fn get(&self, name: Name) -> Option<Ty>
         ensures { option_of as_ty result ≡ get name.0 self.now.names }
     {
         let chain = chain_of(name, self.heads.len());
         let mut link = self.heads[chain];
         while let Some(i) = link.get() {
-            let e = self.entries[i];
+            let e = self.bindings[i];
             if e.name == name {
                 return Some(e.ty);
             }
@@ -152,18 +152,18 @@ impl<'a> Env<'a> {
     {
         let chain = chain_of(name, self.heads.len());
         let link = self.heads[chain];
-        self.entries[self.count] = Entry { name, link, ty: t };
+        self.bindings[self.count] = Binding { name, link, ty: t };
         self.heads[chain] = Link::to(self.count);
         self.count += 1;
     }
 
-    // Only the first `mark` names are known again (For). Newest first, an entry's chain gets back the head from before it.
-    // The entries are lent as `&mut`, though they are only read: beside a `&` of one field the borrow checker covers no use of another.
+    // Only the first `mark` names are known again (For). Newest first, a binding's chain gets back the head from before it.
+    // The bindings are lent as `&mut`, though they are only read: beside a `&` of one field the borrow checker covers no use of another.
     pub fn truncate(&mut self, mark: usize)
         requires { mark ≤ length self.old.names }
         ensures { self.new ≡ truncated mark self.old }
     {
-        let going = &mut self.entries[mark..self.count];
+        let going = &mut self.bindings[mark..self.count];
         let heads = &mut *self.heads;
         for e in going.iter().rev() {
             let chain = chain_of(e.name, heads.len());

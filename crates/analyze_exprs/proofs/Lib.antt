@@ -1,3 +1,3 @@
 pub mod Fitting
-pub mod CalleeSteps
+pub mod SignatureSteps
 pub mod Turns

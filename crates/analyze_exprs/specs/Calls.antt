@@ -1,4 +1,4 @@
--- Calls: what is called, and whether the arguments so far fit. Assumes nothing: these are definitions.
+-- Calls: the signature of what is called, and whether the arguments so far fit. Assumes nothing: these are definitions.
 use Rattle.std.specs.Prelude.{ℕ, zero, suc, Bool, true, not, ◌&&◌, List, [], ◌∷◌, Option, eqb, length}
 use Rattle.std.proofs.Math.Option as maths
 use Rattle.definitions.specs.Result.{ok, ◌>>=◌, ◌>>◌, ok_or_else, check}
@@ -9,8 +9,8 @@ use Rattle.definitions.specs.Sema.{return_type}
 use Rattle.ir.specs.Answers.{option_of}
 use Rattle.contract_nodes.specs.Nodes.{function_in}
 use Rattle.analyze_walk.specs.Stops.{Checking, sema}
-use Rattle.analyze_exprs.specs.declared.calls.Callee.{Callee}
-use Rattle.analyze_exprs.specs.declared.calls.Callee.TheVariants as callee
+use Rattle.analyze_exprs.specs.declared.calls.Signature as code
+use Rattle.analyze_exprs.specs.declared.calls.Signature.TheVariants as signature
 
 -- so many parameters of type U64
 abbrev pub u64s : ℕ → List IrType
@@ -18,12 +18,12 @@ u64s zero = []
 u64s (suc n) = IrType.U64 ∷ u64s n
 
 -- the signature of what is called
-abbrev pub signature_in : Callee → Signature
-signature_in (callee.BuiltIn n) = (u64s n, IrType.U64)
-signature_in (callee.Declared f) = (analyze.param_types (function_in f).params, return_type (function_in f).return_type)
+abbrev pub signature_in : code.Signature → Signature
+signature_in (signature.BuiltIn n) = (u64s n, IrType.U64)
+signature_in (signature.Declared f) = (analyze.param_types (function_in f).params, return_type (function_in f).return_type)
 
-abbrev pub callee_in : Option Callee → maths.Option Signature
-callee_in c = option_of signature_in c
+abbrev pub signature_found : Option code.Signature → maths.Option Signature
+signature_found c = option_of signature_in c
 
 -- the type of the i-th parameter; Unknown, which differs from nothing, if there is none
 abbrev pub nth_ty : List IrType → ℕ → analyze.Ty

@@ -18,7 +18,7 @@ use analyze_state::{Analyzer, SemaError};
 use contract_nodes::{Expr, ExprNode, Exprs, FieldInits};
 use ir::{IrType, Name};
 
-mod calls; // what is called, and whether the arguments fit
+mod calls; // the signature of what is called, and whether the arguments fit
 mod fields; // the fields of a value and of a literal
 
 // The type of an expression, with the names that are known.
@@ -86,11 +86,11 @@ fn analyze_call(
     requires { OfSheet a.now args.contract }
     ensures { result_of error_of as_ty result ≡ check_call (analyzed_contract a.now) env.now.names at name.0 (exprs_in args.entry) }
 {
-    let callee = calls::callee_named(a, name);
+    let signature = calls::signature_named(a, name);
     let mut fits = true;
     for (i, arg) in args.enumerate() {
         let ty = analyze_expr(a, env, arg)?;
-        fits &= !differs(calls::param_ty(callee, i), ty);
+        fits &= !differs(calls::param_ty(signature, i), ty);
     }
-    calls::finish_call(at, callee, args.len(), fits)
+    calls::finished(at, signature, args.len(), fits)
 }

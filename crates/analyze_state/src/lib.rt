@@ -3,7 +3,7 @@
 
 ghost use Rattle.std.specs.Prelude.{◌≡◌};
 
-use contract_lookup::items::{Functions, Structs};
+use contract_lookup::declarations::{Functions, Structs};
 use ir::IrType;
 use thiserror::Error;
 
@@ -40,7 +40,7 @@ pub enum SemaError {
 }
 
 // The Rust's `SemanticAnalyzer`: the structs and the functions of the contract, and the return type of the function under way.
-#[derive(Clone, Copy, Debug)]
+#[derive(Clone, Copy)]
 pub struct Analyzer<'a> {
     pub structs: &'a Structs<'a>,
     pub functions: &'a Functions<'a>,

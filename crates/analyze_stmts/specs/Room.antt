@@ -4,7 +4,7 @@ use Rattle.std.specs.Prelude.{ℕ, ◌+◌, ◌*◌, ◌≤◌, ◌≡◌, List,
 use Rattle.definitions.specs.Analyze.{Env}
 use Rattle.analyze_env.specs.Names.{Names}
 
--- the entries hold all names of a sheet
+-- there are bindings for all names of a sheet
 abbrev pub RoomForAll : List ℕ → Names → Type 0
 RoomForAll s env = length s + 256 ≤ 16 * env.room
 

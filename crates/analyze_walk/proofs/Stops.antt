@@ -155,7 +155,7 @@ mutual
   stmt K ret (Stmt.Assign p n e) env = assigned (get n env) p n (analyze_expr K env e) (check_expr K env e) env (expr K env e)
   stmt K ret (Stmt.StorageWrite p n e) env = seq (expr K env e) (given env)
   stmt K ret (Stmt.MappingWrite p n key val) env = seq (seq (expr K env key) (expr K env val)) (given env)
-  stmt K ret (Stmt.If p cond pt thenBranch elseBranch) env = seq (expr K env cond) (bind (stmts K ret thenBranch env) (λ after. elses K ret elseBranch after))
+  stmt K ret (Stmt.If p cond pt then_branch else_branch) env = seq (expr K env cond) (bind (stmts K ret then_branch env) (λ after. elses K ret else_branch after))
   stmt K ret (Stmt.While p cond pb body) env = seq (expr K env cond) (stmts K ret body env)
   stmt K ret (Stmt.For p var start end pb body) env = seq (expr K env start) (seq (expr K env end) (seq (stmts K ret body (insert var U64 env)) (given env)))
   stmt K ret (Stmt.Return p e) env = bind (returned K env e) (λ ty. seq (pushed_if (differs ty (known ret)) (SemaError.ReturnMismatch p (known ret) ty)) (given env))

@@ -104,10 +104,10 @@ unfoldable mutual
     ok env
   check_stmt K ret (Stmt.StorageWrite p n e) env = check_expr K env e >> ok env
   check_stmt K ret (Stmt.MappingWrite p n key val) env = check_expr K env key >> check_expr K env val >> ok env
-  check_stmt K ret (Stmt.If p cond pt thenBranch elseBranch) env = do
+  check_stmt K ret (Stmt.If p cond pt then_branch else_branch) env = do
     check_expr K env cond
-    env ← check_stmts K ret thenBranch env
-    check_else K ret elseBranch env
+    env ← check_stmts K ret then_branch env
+    check_else K ret else_branch env
   check_stmt K ret (Stmt.While p cond pb body) env = do
     check_expr K env cond
     check_stmts K ret body env

@@ -45,10 +45,10 @@ slot_is n C (Some p) q = rw (← storage_is n C q)
 slot_is n C None q = rw (← storage_is n C q)
 
 -- a signature
-pub signature_here : {i : ℕ} {g : Function} {t : defs.IrType} (K : Contract) (n : ℕ) → some (i, g) ≡ sema.function_named K n → t ≡ sema.return_type g.return_type → some (i, t) ≡ id_named K n
+pub named_here : {i : ℕ} {g : Function} {t : defs.IrType} (K : Contract) (n : ℕ) → some (i, g) ≡ sema.function_named K n → t ≡ sema.return_type g.return_type → some (i, t) ≡ id_named K n
 unfolding id_named
-signature_here {i} K n e q = rw (← e) (ap (λ (x : defs.IrType). some (i, x)) q)
+named_here {i} K n e q = rw (← e) (ap (λ (x : defs.IrType). some (i, x)) q)
 
-pub no_signature : (K : Contract) (n : ℕ) → none ≡ sema.function_named K n → none ≡ id_named K n
+pub none_named : (K : Contract) (n : ℕ) → none ≡ sema.function_named K n → none ≡ id_named K n
 unfolding id_named
-no_signature K n e = rw (← e)
+none_named K n e = rw (← e)

@@ -10,9 +10,9 @@ use Rattle.definitions.specs.Records.{Tree, node, num_at, gather}
 use Rattle.definitions.specs.Sema as sema
 use Rattle.ir.specs.Types.{as_type}
 use Rattle.sheet.specs.Passed.{children_of}
-use Rattle.contract_nodes.specs.Ready.{tree_at, top_class, RecordStands}
+use Rattle.contract_nodes.specs.Ready.{tree_at, top_class, RecordStands, top_depth}
 use Rattle.contract_lookup.specs.declared.symbols.Found.{Found}
-use Rattle.contract_lookup.specs.declared.symbols.Signature.{Signature}
+use Rattle.contract_lookup.specs.declared.symbols.NamedFunction.{NamedFunction}
 
 -- what was found, without its position
 abbrev pub second : {A : Type 0} → Option (ℕ × A) → Option A
@@ -31,7 +31,7 @@ found_in s None = none
 
 -- a record of the kind k that was found stands at its place
 abbrev pub StandsAt : List ℕ → ℕ → Maybe Found → Type 0
-StandsAt s k (Some f) = RecordStands (top_class k) s f.at 39
+StandsAt s k (Some f) = RecordStands (top_class k) s f.at top_depth
 StandsAt s k None = Unit {0}
 
 -- A STORAGE FIELD: its bytes, and its slot by its place
@@ -90,5 +90,5 @@ id_in (some p) = some (p.0, sema.return_type p.1.return_type)
 unfoldable pub id_named : Contract → ℕ → Option (ℕ × defs.IrType)
 id_named K n = id_in (sema.function_named K n)
 
-abbrev pub signature_of : Signature → ℕ × defs.IrType
-signature_of x = (x.function.0, as_type x.ret)
+abbrev pub id_and_type : NamedFunction → ℕ × defs.IrType
+id_and_type x = (x.function.0, as_type x.ret)

@@ -4,7 +4,7 @@ use Rattle.definitions.specs.Ast as ast
 use Rattle.ir.specs.declared.FunctionId.{FunctionId}
 use Rattle.contract_nodes.specs.Nodes.{contract_in, function_in}
 use Rattle.contract_nodes.specs.declared.contract.Function.{Function}
-use Rattle.contract_lookup.specs.declared.items.FunctionIter.{FunctionIter}
+use Rattle.contract_lookup.specs.declared.declarations.FunctionIter.{FunctionIter}
 
 -- the functions from the `next`-th on
 abbrev pub left_in : FunctionIter → List ast.Function

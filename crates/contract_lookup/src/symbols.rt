@@ -2,18 +2,18 @@
 ghost use Rattle.std.specs.Prelude.{◌≡◌, ◌<◌, IfSome, eqb};
 ghost use Rattle.definitions.specs.Lower.{struct_named, field_position};
 ghost use Rattle.definitions.specs.Records.{pick};
-ghost use Rattle.format.specs.Kinds.{item_number};
+ghost use Rattle.format.specs.Kinds.{declaration_number};
 ghost use Rattle.ir.specs.Answers.{option_of};
 ghost use Rattle.ir.specs.Types.{as_type};
 ghost use Rattle.sheet.specs.Passed.{record_kind, stop_of};
-ghost use Rattle.contract_nodes.specs.Ready.{Ready, top_class};
+ghost use Rattle.contract_nodes.specs.Ready.{Ready, top_class, top_depth};
 ghost use Rattle.contract_nodes.specs.Nodes.{contract_in, struct_in};
-ghost use Rattle.contract_lookup.specs.Answers.{second, found_in, StandsAt, BehindLast, last_of, slot_at, slot_named, field_type_named, signature_of, id_named};
+ghost use Rattle.contract_lookup.specs.Answers.{second, found_in, StandsAt, BehindLast, last_of, slot_at, slot_named, field_type_named, id_and_type, id_named};
 
 use crate::types::{from_str, return_type};
 use contract_nodes::{Contract, Function, Struct};
-use format::kinds::{Item, Kind};
-use format::{KIND, contract};
+use format::kinds::{Declaration, Kind};
+use format::{HIGH_HALF, ID, KIND, KIND_BYTES, LENGTH_BYTES, contract};
 use ir::{FunctionId, IrType, Name};
 use reader::{read, read_u16};
 
@@ -26,30 +26,30 @@ struct Found {
 
 // A function's id and the type of a call of it.
 #[derive(Clone, Copy, Debug, PartialEq, Eq)]
-pub struct Signature {
+pub struct NamedFunction {
     pub function: FunctionId,
     pub ret: IrType,
 }
 
 // The place after a record. Storage fields all take the same bytes, so that a walk past one waits for no length that it reads.
 pub(crate) fn past(s: &[u8], at: usize, kind: u16) -> usize
-    requires { (kind ≡ record_kind s.now at) × Ready (top_class kind) s.now at 39 }
+    requires { (kind ≡ record_kind s.now at) × Ready (top_class kind) s.now at top_depth }
     ensures { result ≡ stop_of s.now at }
 {
-    if kind == Item::Storage as u16 {
+    if kind == Declaration::Storage as u16 {
         return at + contract::STORAGE_BYTES;
     }
-    at + read(s, at, 4)
+    at + read(s, at, LENGTH_BYTES)
 }
 
 // The last record of a kind that has a name. None comes after a record of a higher kind. A loop of its own, as `places_of` and for its reason.
-// Kinds are compared by their numbers: decoded as an `Item`, 64 structs behind 256 storage fields take 3.6 percent more instructions.
-fn last_named(contract: Contract, kind: Item, name: Name) -> Option<Found>
-    ensures is { found_in contract.entry.sheet.now result ≡ last_of contract.entry.sheet.now (item_number kind) name.0 }
-    ensures stands { StandsAt contract.entry.sheet.now (item_number kind) result }
+// Kinds are compared by their numbers: decoded as a `Declaration`, 64 structs behind 256 storage fields take 3.6 percent more instructions.
+fn last_named(contract: Contract, kind: Declaration, name: Name) -> Option<Found>
+    ensures is { found_in contract.entry.sheet.now result ≡ last_of contract.entry.sheet.now (declaration_number kind) name.0 }
+    ensures stands { StandsAt contract.entry.sheet.now (declaration_number kind) result }
 {
     let s = contract.sheet;
-    let wanted = u16::from(Kind::Item(kind));
+    let wanted = u16::from(Kind::Declaration(kind));
     let mut found = None;
     let mut position = 0;
     let mut at = contract::CHILDREN;
@@ -76,10 +76,10 @@ fn this_or_earlier(here: usize, wanted: usize, next: usize, found: usize) -> usi
     if here == wanted { next } else { found }
 }
 
-// A record's kind and name, read as one number of four bytes: the kind, and BEHIND_KIND times the name.
-const BEHIND_KIND: usize = 65536;
+// A record's kind and name, read as one number: the kind, and HIGH_HALF times the name.
+const KIND_AND_NAME: usize = KIND_BYTES + ID;
 
-const STORAGE: usize = Item::Storage as usize;
+const STORAGE: usize = Declaration::Storage as usize;
 
 // The place behind the last storage field that has a name; where the fields start if none has. Storage fields come first. Kind and name are
 // read at once, and two fields a turn: a turn costs more than a comparison, and an Option in it costs three instructions a field.
@@ -87,7 +87,7 @@ fn last_storage(contract: Contract, name: Name) -> usize
     ensures { BehindLast contract.entry.sheet.now name.0 result }
 {
     let s = contract.sheet;
-    let wanted = STORAGE + BEHIND_KIND * (name.0 as usize);
+    let wanted = STORAGE + HIGH_HALF * (name.0 as usize);
     let bytes = contract::STORAGE_BYTES;
     let mut found = contract::CHILDREN;
     if s.len() < contract::CHILDREN + bytes {
@@ -96,21 +96,21 @@ fn last_storage(contract: Contract, name: Name) -> usize
     let stop = s.len() - bytes;
     let mut at = contract::CHILDREN;
     while at < stop {
-        let here = read(s, at + KIND, 4);
-        if here % BEHIND_KIND != STORAGE {
+        let here = read(s, at + KIND, KIND_AND_NAME);
+        if here % HIGH_HALF != STORAGE {
             return found;
         }
         let next = at + bytes;
         found = this_or_earlier(here, wanted, next, found);
-        let here = read(s, next + KIND, 4);
-        if here % BEHIND_KIND != STORAGE {
+        let here = read(s, next + KIND, KIND_AND_NAME);
+        if here % HIGH_HALF != STORAGE {
             return found;
         }
         at = next + bytes;
         found = this_or_earlier(here, wanted, at, found);
     }
     if at < s.len() {
-        let here = read(s, at + KIND, 4);
+        let here = read(s, at + KIND, KIND_AND_NAME);
         found = this_or_earlier(here, wanted, at + bytes, found);
     }
     found
@@ -139,7 +139,7 @@ pub fn struct_named<'a>(contract: Contract<'a>, name: Name) -> Option<Struct<'a>
     ensures is { option_of struct_in result ≡ second (struct_named (contract_in contract.entry) name.0) }
     ensures same_sheet { IfSome result (λ x. x.contract.sheet.now ≡ contract.entry.sheet.now) }
 {
-    let found = last_named(contract, Item::Struct, name)?;
+    let found = last_named(contract, Declaration::Struct, name)?;
     Some(Struct {
         contract,
         at: found.at,
@@ -165,15 +165,15 @@ pub fn field_type(of: Struct, name: Name) -> Option<IrType>
 }
 
 // A function's id, which is its position, and the type of a call of it.
-pub fn signature_named(contract: Contract, name: Name) -> Option<Signature>
-    ensures { option_of signature_of result ≡ id_named (contract_in contract.entry) name.0 }
+pub fn function_named(contract: Contract, name: Name) -> Option<NamedFunction>
+    ensures { option_of id_and_type result ≡ id_named (contract_in contract.entry) name.0 }
 {
-    let found = last_named(contract, Item::Function, name)?;
+    let found = last_named(contract, Declaration::Function, name)?;
     let function = Function {
         contract,
         at: found.at,
     };
-    Some(Signature {
+    Some(NamedFunction {
         function: FunctionId(found.position as u16),
         ret: return_type(function.return_type()),
     })

@@ -31,7 +31,7 @@ use Rattle.sheet.specs.Passed.{record_kind, stop_of, values_at}
 use Rattle.contract_nodes.specs.declared.contract.Function.{Function}
 use Rattle.contract_nodes.specs.declared.contract.Param.{Param}
 use Rattle.contract_nodes.specs.declared.contract.Struct.{Struct}
-use Rattle.contract_nodes.specs.Ready.{expr_at, fields_from, function_at, params_from, RecordStands, StandAll, Ready, ReadyAll}
+use Rattle.contract_nodes.specs.Ready.{expr_at, fields_from, function_at, params_from, RecordStands, StandAll, Ready, ReadyAll, top_depth}
 use Rattle.contract_nodes.specs.Nodes.{opt_name, param_is}
 use Rattle.contract_nodes.proofs.Children.{by_row, named, More, more, End}
 use Rattle.contract_nodes.proofs.ExprPlaces.{one_at}
@@ -149,13 +149,13 @@ first_param s at p e is = rw (e, is.0, is.1)
 
 -- WHAT STANDS in a function and in a struct of a contract
 abbrev pub FunctionHere : Function → Type 0
-FunctionHere f = FunctionAt f.contract.sheet.now f.at 39
+FunctionHere f = FunctionAt f.contract.sheet.now f.at top_depth
 
 pub function_here : (f : Function) → FunctionHere f
-function_here f = function_at_lem (ready {d = 39} f.ready)
+function_here f = function_at_lem (ready {d = top_depth} f.ready)
 
 pub struct_here : (x : Struct) → (n : ℕ) × StructAt x.contract.sheet.now x.at n
-struct_here x = struct_at (ready {d = 39} x.ready)
+struct_here x = struct_at (ready {d = top_depth} x.ready)
 
 -- how many parameters a function has
 pub params_count : {s : List ℕ} {at d : ℕ} → FunctionAt s at d → length (function_at s at).params ≡ le 2 s (at + 12)

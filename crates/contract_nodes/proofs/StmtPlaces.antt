@@ -101,10 +101,10 @@ stmt_here {s} {at} {d} r stmt.If e =
       record {
         arms = opt_b (blocks_of (read_records s q (stop_of s at)));
         is = ap stmt_of n.tree ∙ ap₂ (stmt_from at 15 []) es bs;
-        some_else = λ h.
+        with_else = λ h.
             let l : LastBlock s at q d = last_block (last_first (perhaps_next g.rest) h) (omega (arith, f.low, g.low)) in
             record { behind = omega arith; low = l.inside.2; stand = l.inside.4; is = inr (q, ap opt_b l.is) };
-        no_else_lem = λ h.
+        without_else = λ h.
             let z : q ≡ stop_of s at = omega (arith, g.high) in
             record { behind = g.high; low = omega arith; stand = stand_all (nothing_at {d = d - 2} (stop_of s at) n.inside b.body); is = inl (ap (λ ts. opt_b (blocks_of ts)) (at_end s z), no_stmts s (stop_of s at)) };
       },

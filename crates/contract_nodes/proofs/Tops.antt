@@ -21,12 +21,12 @@ use Rattle.definitions.specs.Fine.{Head, Fine}
 use Rattle.definitions.proofs.Sheets.Passed.{both_true, first_past, fine, both_good, read_end}
 use Rattle.definitions.proofs.Sheets.Reads.{items_count}
 use Rattle.definitions.proofs.Sheets.Lines.{OfRows, Given, by_lines}
-use Rattle.definitions.proofs.Sheets.Singles.{items_from, after as afterAll, Valid, Counted, counted_field}
+use Rattle.definitions.proofs.Sheets.Singles.{items_from, after as after_all, Valid, Counted, counted_field}
 use Rattle.definitions.proofs.Sheets.Steps.{Step, here, past as passed_over, many_step, One, this, one_step, done_ends}
 use Rattle.sheet.specs.Passed.{Node, record_kind, stop_of, body_of, values_at, children_of}
 use Rattle.sheet.proofs.Nodes.{opens}
 use Rattle.contract_nodes.proofs.Children.{Entries, entries, row_is, by_row, not_over, kids_of, all_of}
-use Rattle.contract_nodes.specs.Ready.{tree_at, top_class, function_at, stmts_from, params_from, Ready, ReadyAll}
+use Rattle.contract_nodes.specs.Ready.{tree_at, top_class, function_at, stmts_from, params_from, Ready, ReadyAll, top_depth}
 use Rattle.sheet.specs.Passed.{ContractPassed}
 
 -- CLASSES: the kind of a record at the top is its class's number
@@ -86,7 +86,7 @@ record Named (s : List ℕ) (at : ℕ) : Type 0 where
   small : le 2 s (at + 6) ≤ 65534
 
 named_row : {fs : List Field} {s : List ℕ} {at : ℕ} → Entries (up_to 65534 ∷ []) fs s at → Named s at
-unfolding items_from read_item afterAll size_of Valid ok_item
+unfolding items_from read_item after_all size_of Valid ok_item
 named_row E = record { long = E.fits; is = ap (num_at 0) E.values; small = leb-true _ _ E.valid.0 }
 
 top_named : {s : List ℕ} {at end k : ℕ} → Node s at end → record_kind s at ≡ k → TopKind k → Named s at
@@ -111,7 +111,7 @@ pub record Top (s : List ℕ) (at : ℕ) (T : Tops s at) : Type 0 where
   pub inside : stop_of s at ≤ length s
   pub name : num_at 0 (values_at s at) ≡ le 2 s (at + 6)
   pub small : le 2 s (at + 6) ≤ 65534
-  pub ready : {j : ℕ} → record_kind s at ≡ j → Ready (top_class j) s at 39
+  pub ready : {j : ℕ} → record_kind s at ≡ j → Ready (top_class j) s at top_depth
   pub read : read_records s at (length s) ≡ tcons (tree_at s at) (read_records s (stop_of s at) (length s))
   pub room : count_of (record_kind s at) T.before < most_of (record_kind s at)
   pub next : Tops s (stop_of s at)
@@ -182,7 +182,7 @@ pub record ContractAt (s : List ℕ) : Type 0 where
   pub functions : (read_contract s).functions ≡ gather 4 4 function_of (read_records s 8 (length s))
 
 pub contract_at : {s : List ℕ} → ContractPassed s → ContractAt s
-unfolding refusal3 refusal4 check_records read_contract contract_of limit_tree rows row_in row_fields fields_end items_from afterAll size_of
+unfolding refusal3 refusal4 check_records read_contract contract_of limit_tree rows row_in row_fields fields_end items_from after_all size_of
 contract_at {s} C = go (one_step Class.contract done f)
   where
     f : Fine s 0 (length s) (one Class.contract done)
@@ -261,7 +261,7 @@ unfolding ok_field size_of
 listed_rest s stop at h = let a = both_true (eqb ((stop - at) % 4) 0) _ (first_past (listed name_and_type) [] s stop at h).0 in (eqb-true _ _ a.0, a.1)
 
 pub struct_at : {s : List ℕ} {at d : ℕ} → Ready Class.struct s at d → (n : ℕ) × StructAt s at n
-unfolding rows row_in row_fields read_values read_value items_from read_item afterAll size_of
+unfolding rows row_in row_fields read_values read_value items_from read_item after_all size_of
 struct_at {s} {at} R =
     let n = R.node_at in
     let k : record_kind s at ≡ 3 = by_row Numbered struct_kind R in
@@ -303,7 +303,7 @@ pub record FunctionAt (s : List ℕ) (at d : ℕ) : Type 0 where
   pub statements : ReadyAll Class.statement s (body_from s at) (stop_of s at) (d - 1)
 
 pub function_at_lem : {s : List ℕ} {at d : ℕ} → Ready Class.function s at d → FunctionAt s at d
-unfolding rows row_in row_fields read_values read_value items_from read_item afterAll size_of field_end fields_end function_of Valid ok_item
+unfolding rows row_in row_fields read_values read_value items_from read_item after_all size_of field_end fields_end function_of Valid ok_item
 function_at_lem {s} {at} {d} R =
     let n = R.node_at in
     let k : record_kind s at ≡ 4 = by_row Numbered function_kind R in

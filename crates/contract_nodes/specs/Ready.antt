@@ -37,6 +37,10 @@ params_from s at (suc n) = record { name = le 2 s at; ty = le 2 s (at + 2) } ∷
 abbrev pub top_class : ℕ → Class
 top_class k = pick (eqb k 2) Class.storage (pick (eqb k 3) Class.struct Class.function)
 
+-- what is left of the depth at one of these
+abbrev pub top_depth : ℕ
+top_depth = 39
+
 -- a record of the class c stands at `at`, and its depth is 41 less d
 pub record Ready (c : Class) (s : List ℕ) (at d : ℕ) : Type 0 where
   pub end : ℕ

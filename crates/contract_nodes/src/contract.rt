@@ -2,47 +2,47 @@
 ghost use Rattle.std.specs.Prelude.{◌+◌, ◌*◌, ◌≤◌, length};
 ghost use Rattle.definitions.specs.Grammar.{Class};
 ghost use Rattle.sheet.specs.Passed.{ContractPassed};
-ghost use Rattle.contract_nodes.specs.Ready.{RecordStands};
+ghost use Rattle.contract_nodes.specs.Ready.{RecordStands, top_depth};
 
 use crate::stmt::Stmts;
-use format::contract;
+use format::{COUNT, LENGTH_BYTES, contract};
 use ir::Name;
 use reader::{read, read_u16};
 use sheet::ContractError;
 use sheet::places::opt_id;
 
 // A contract sheet that passed its check.
-#[derive(Clone, Copy, Debug)]
+#[derive(Clone, Copy)]
 pub struct Contract<'a> {
     pub sheet: &'a [u8],
     pub ghost passed: { ContractPassed sheet.now },
 }
 
 // A struct of it, by the place of its record.
-#[derive(Clone, Copy, Debug)]
+#[derive(Clone, Copy)]
 pub struct Struct<'a> {
     pub contract: Contract<'a>,
     pub at: usize,
-    pub ghost ready: { RecordStands Class.struct contract.sheet.now at 39 },
+    pub ghost ready: { RecordStands Class.struct contract.sheet.now at top_depth },
 }
 
 // A function of it.
-#[derive(Clone, Copy, Debug)]
+#[derive(Clone, Copy)]
 pub struct Function<'a> {
     pub contract: Contract<'a>,
     pub at: usize,
-    pub ghost ready: { RecordStands Class.function contract.sheet.now at 39 },
+    pub ghost ready: { RecordStands Class.function contract.sheet.now at top_depth },
 }
 
 // A field of a struct, or a parameter of a function: its name, and its type's.
-#[derive(Clone, Copy, Debug)]
+#[derive(Clone, Copy)]
 pub struct Param {
     pub name: Name,
     pub ty: Name,
 }
 
 // The fields of a struct or the parameters of a function, from a place on.
-#[derive(Clone, Copy, Debug)]
+#[derive(Clone, Copy)]
 pub struct ParamIter<'a> {
     pub contract: Contract<'a>,
     pub at: usize,
@@ -71,18 +71,12 @@ impl<'a> Struct<'a> {
     ghost use Rattle.std.specs.Prelude.{◌≡◌};
     ghost use Rattle.contract_nodes.specs.Nodes.{struct_in, params_left};
 
-    pub fn name(self) -> Name
-        ensures { result.0 ≡ (struct_in self.entry).name }
-    {
-        Name::new(read_u16(self.contract.sheet, self.at + contract::NAME))
-    }
-
     // Its fields.
     pub fn fields(self) -> ParamIter<'a>
         ensures is { params_left result ≡ (struct_in self.entry).fields }
         ensures most { result.left ≤ 64 }
     {
-        let size = read(self.contract.sheet, self.at, 4);
+        let size = read(self.contract.sheet, self.at, LENGTH_BYTES);
         ParamIter {
             contract: self.contract,
             at: self.at + contract::AFTER_NAME,
@@ -113,7 +107,7 @@ impl<'a> Function<'a> {
         ensures count { result ≡ length (function_in self.entry).params }
         ensures most { result ≤ 16 }
     {
-        read(self.contract.sheet, self.at + contract::PARAM_COUNT, 2)
+        read(self.contract.sheet, self.at + contract::PARAM_COUNT, COUNT)
     }
 
     // The i-th parameter.
@@ -150,7 +144,7 @@ impl<'a> Function<'a> {
         Stmts {
             contract: self.contract,
             at: self.at + contract::PARAMS + contract::PARAM * self.param_count(),
-            end: self.at + read(s, self.at, 4),
+            end: self.at + read(s, self.at, LENGTH_BYTES),
             depth: contract::FUNCTION_DEPTH - 1,
         }
     }

@@ -4,12 +4,12 @@ ghost use Rattle.contract_nodes.specs.Ready.{RecordStands, StandAll};
 
 use crate::contract::Contract;
 use format::operators::BinOp;
-use format::{KIND, contract, kinds};
+use format::{KIND, LENGTH_BYTES, WORD, contract, kinds};
 use ir::Name;
 use reader::{read, read_u16};
 
 // An expression by the place of its record. `depth` is what its subexpressions' depth stays below.
-#[derive(Clone, Copy, Debug)]
+#[derive(Clone, Copy)]
 pub struct Expr<'a> {
     pub contract: Contract<'a>,
     pub at: usize,
@@ -18,7 +18,7 @@ pub struct Expr<'a> {
 }
 
 // Expressions that stand from a place to an end: the arguments of a call or an event.
-#[derive(Clone, Copy, Debug)]
+#[derive(Clone, Copy)]
 pub struct Exprs<'a> {
     pub contract: Contract<'a>,
     pub at: usize,
@@ -28,7 +28,7 @@ pub struct Exprs<'a> {
 }
 
 // The fields of a struct literal.
-#[derive(Clone, Copy, Debug)]
+#[derive(Clone, Copy)]
 pub struct FieldInits<'a> {
     pub contract: Contract<'a>,
     pub at: usize,
@@ -38,7 +38,7 @@ pub struct FieldInits<'a> {
 }
 
 // What an expression is (`Expr` of `ast.rs`).
-#[derive(Clone, Copy, Debug)]
+#[derive(Clone, Copy)]
 pub enum ExprNode<'a> {
     Int(usize),
     Ident(Name),
@@ -51,7 +51,7 @@ pub enum ExprNode<'a> {
 }
 
 // A field of a struct literal.
-#[derive(Clone, Copy, Debug)]
+#[derive(Clone, Copy)]
 pub struct FieldInit<'a> {
     pub name: Name,
     pub value: Expr<'a>,
@@ -99,10 +99,10 @@ impl<'a> Expr<'a> {
         let kind = self.kind();
         let name = Name::new(read_u16(s, self.at + contract::NAME));
         let at = self.at + contract::AFTER_NAME;
-        let end = self.at + read(s, self.at, 4);
+        let end = self.at + read(s, self.at, LENGTH_BYTES);
         let depth = self.depth - 1;
         match kind {
-            kinds::Expr::Int => ExprNode::Int(read(s, self.at + contract::NUMBER, 8)),
+            kinds::Expr::Int => ExprNode::Int(read(s, self.at + contract::NUMBER, WORD)),
             kinds::Expr::Ident => ExprNode::Ident(name),
             kinds::Expr::StorageRead => ExprNode::StorageRead(name),
             kinds::Expr::MappingRead => ExprNode::MappingRead(name, Expr::new(contract, at, depth)),
@@ -119,7 +119,7 @@ impl<'a> Expr<'a> {
             kinds::Expr::Binary => {
                 let op = BinOp::try_from(read_u16(s, self.at + contract::OPERATOR)).unwrap();
                 let left = Expr::new(contract, at, depth);
-                let right = Expr::new(contract, at + read(s, at, 4), depth);
+                let right = Expr::new(contract, at + read(s, at, LENGTH_BYTES), depth);
                 ExprNode::Binary(op, left, right)
             }
             kinds::Expr::Call => ExprNode::Call(
@@ -163,7 +163,7 @@ impl<'a> Iterator for Exprs<'a> {
             return None;
         }
         let expr = Expr::new(self.contract, self.at, self.depth);
-        self.at += read(self.contract.sheet, self.at, 4);
+        self.at += read(self.contract.sheet, self.at, LENGTH_BYTES);
         Some(expr)
     }
 }
@@ -189,7 +189,7 @@ impl<'a> Iterator for FieldInits<'a> {
             name: Name::new(read_u16(s, at + contract::NAME)),
             value: Expr::new(self.contract, at + contract::AFTER_NAME, self.depth - 1),
         };
-        self.at += read(s, at, 4);
+        self.at += read(s, at, LENGTH_BYTES);
         Some(field)
     }
 }

@@ -5,7 +5,7 @@
 // three readings and two laws, for three bodies of ten lines. `ParamIter` are no records: they have no size of their own, and are counted.
 // A list is a place and an end, or a count, and no slice: the definitions read a sheet at places, and a refusal names them.
 
-pub mod contract; // the contract, its items and what they have in them
+pub mod contract; // the contract, its declarations and what they have in them
 pub mod expr; // expressions
 pub mod stmt; // statements
 

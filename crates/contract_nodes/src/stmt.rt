@@ -4,12 +4,12 @@ ghost use Rattle.contract_nodes.specs.Ready.{RecordStands, StandAll};
 
 use crate::contract::Contract;
 use crate::expr::{Expr, Exprs};
-use format::{HEAD, KIND, contract, kinds};
+use format::{HEAD, KIND, LENGTH_BYTES, contract, kinds};
 use ir::Name;
 use reader::{read, read_u16};
 
 // A statement by the place of its record.
-#[derive(Clone, Copy, Debug)]
+#[derive(Clone, Copy)]
 pub struct Stmt<'a> {
     pub contract: Contract<'a>,
     pub at: usize,
@@ -18,7 +18,7 @@ pub struct Stmt<'a> {
 }
 
 // Statements that stand from a place to an end: those of a function, an arm or a body.
-#[derive(Clone, Copy, Debug)]
+#[derive(Clone, Copy)]
 pub struct Stmts<'a> {
     pub contract: Contract<'a>,
     pub at: usize,
@@ -29,7 +29,7 @@ pub struct Stmts<'a> {
 
 // What a statement is (`Stmt` of `ast.rs`). An If without a second arm has one without statements: both walks
 // do the same for the two.
-#[derive(Clone, Copy, Debug)]
+#[derive(Clone, Copy)]
 pub enum StmtNode<'a> {
     Let(Name, Expr<'a>),
     Constrain(Expr<'a>),
@@ -73,7 +73,7 @@ impl<'a> Stmt<'a> {
     fn end(self) -> usize
         ensures { result ≡ stop_of self.entry.contract.sheet.now self.entry.at }
     {
-        self.at + read(self.contract.sheet, self.at, 4)
+        self.at + read(self.contract.sheet, self.at, LENGTH_BYTES)
     }
 
     // What it is. Inlined, as that of an expression is.
@@ -98,7 +98,7 @@ impl<'a> Stmt<'a> {
             ),
             kinds::Stmt::MappingWrite => {
                 let key = Expr::new(contract, at, depth);
-                let value = Expr::new(contract, at + read(s, at, 4), depth);
+                let value = Expr::new(contract, at + read(s, at, LENGTH_BYTES), depth);
                 StmtNode::MappingWrite(self.name(), key, value)
             }
             kinds::Stmt::If => self.if_node(),
@@ -132,8 +132,8 @@ impl<'a> Stmt<'a> {
         let contract = self.contract;
         let s = contract.sheet;
         let at = self.at + HEAD;
-        let block = at + read(s, at, 4);
-        let stop = block + read(s, block, 4);
+        let block = at + read(s, at, LENGTH_BYTES);
+        let stop = block + read(s, block, LENGTH_BYTES);
         let end = self.end();
         let other = if stop < end { stop + HEAD } else { end };
         let condition = Expr::new(contract, at, self.depth - 1);
@@ -150,7 +150,7 @@ impl<'a> Stmt<'a> {
     {
         let contract = self.contract;
         let at = self.at + HEAD;
-        let block = at + read(contract.sheet, at, 4);
+        let block = at + read(contract.sheet, at, LENGTH_BYTES);
         let condition = Expr::new(contract, at, self.depth - 1);
         let body = Stmts::new(contract, block + HEAD, self.end(), self.depth - 2);
         StmtNode::While(condition, body)
@@ -165,8 +165,8 @@ impl<'a> Stmt<'a> {
         let contract = self.contract;
         let s = contract.sheet;
         let from = self.at + contract::AFTER_NAME;
-        let to = from + read(s, from, 4);
-        let block = to + read(s, to, 4);
+        let to = from + read(s, from, LENGTH_BYTES);
+        let block = to + read(s, to, LENGTH_BYTES);
         let first = Expr::new(contract, from, self.depth - 1);
         let last = Expr::new(contract, to, self.depth - 1);
         let body = Stmts::new(contract, block + HEAD, self.end(), self.depth - 2);
@@ -216,7 +216,7 @@ impl<'a> Iterator for Stmts<'a> {
             at: self.at,
             depth: self.depth,
         };
-        self.at += read(self.contract.sheet, self.at, 4);
+        self.at += read(self.contract.sheet, self.at, LENGTH_BYTES);
         Some(stmt)
     }
 }

@@ -17,7 +17,7 @@ use Rattle.definitions.specs.Result.{Result, err, ok, ◌>>=◌, ◌>>◌, map_e
 use Rattle.definitions.specs.Ir.{IrProgram}
 use Rattle.definitions.specs.Lower as lower
 use Rattle.definitions.specs.Records as records
-use Rattle.definitions.specs.Answers.{Refusal, refusal, Answer, refuse_form, lower_refusal, check_contract, analyze_sheet, lower_sheet}
+use Rattle.definitions.specs.Answers.{Refusal, refusal, Answer, refuse_at, lower_refusal, check_contract, analyze_sheet, lower_sheet}
 use Rattle.definitions.specs.Apart.{Never51, RulesOutChecking, AnswersBoth, returned, apart, ApartHold}
 use Rattle.definitions.proofs.All.{all_of}
 
@@ -34,7 +34,7 @@ next : {A B : Type 0} (r : Result Refusal A) (k : Result Refusal B) → Other r 
 next (ok a) k h g = g
 next (err x) k h g = h
 
-checks : (t : Bool) (f g : records.Verdict) → Other (check t (refusal 1 []) >> (refuse_form 3 f >> refuse_form 4 g))
+checks : (t : Bool) (f g : records.Verdict) → Other (check t (refusal 1 []) >> (refuse_at 3 f >> refuse_at 4 g))
 checks false f g = λ q. omega arith
 checks true (records.Bad p) g = λ q. omega arith
 checks true records.Good (records.Bad p) = λ q. omega arith

@@ -21,13 +21,13 @@ bench_sheet_rows_hold =
     all_of SheetTries bench_sheet_rows
     refl  -- returned
     refl  -- limit_reached
-    refl  -- contextWords
+    refl  -- context_words
     refl  -- short
-    refl  -- argumentMissing
-    refl  -- positionAbsent
-    refl  -- verifierBeforeBench
-    refl  -- fiveDetails
-    refl  -- noBytes
+    refl  -- argument_missing
+    refl  -- position_absent
+    refl  -- verifier_before_bench
+    refl  -- five_details
+    refl  -- no_bytes
 
 pub overlong_sheet : OverlongSheet
 unfolding verify_sheet bench_sheet
@@ -44,13 +44,13 @@ pub reached_rows_hold : ReachedRowsHold
 unfolding binary_word value_words state_word take_outside enter_function give_back go_to step_instr step_terminator step_next step_block bench_step bench_run bench_start
 reached_rows_hold =
     all_of Reached reached_rows
-    refl  -- wordsMade
+    refl  -- words_made
     refl  -- in_call
-    refl  -- givenBack
-    refl  -- stateWritten
+    refl  -- given_back
+    refl  -- state_written
     refl  -- jumped
     refl  -- stops
-    refl  -- staysStopped
+    refl  -- stays_stopped
 
 pub slots_apart : SlotsApart
 unfolding state_word
@@ -59,8 +59,8 @@ slots_apart = record { negative = λ m. refl; greatest = λ m. refl }
 pub number_rows_hold : NumberRowsHold
 number_rows_hold =
     all_of (Equal {A = List ℕ}) number_rows
-    refl  -- returnedWord
-    refl  -- returnedNothing
+    refl  -- returned_word
+    refl  -- returned_nothing
     refl  -- zero_divisor
     refl  -- list_used_up
     refl  -- slot_absent

@@ -14,7 +14,7 @@ use Rattle.definitions.specs.Verify.{VerifyError, verify_program}
 use Rattle.definitions.specs.Records.{Verdict, Good, Bad, check_records}
 use Rattle.definitions.specs.ContractSheet.{read_contract, refusal3, refusal4}
 use Rattle.definitions.specs.ProgramSheet.{write_program}
-use Rattle.definitions.specs.Answers.{Refusal, refusal, refuse_form, lower_refusal, verify_refusal, check_contract, lower_sheet, verify_sheet}
+use Rattle.definitions.specs.Answers.{Refusal, refusal, refuse_at, lower_refusal, verify_refusal, check_contract, lower_sheet, verify_sheet}
 use Rattle.definitions.specs.Demand3.{NeverLacks, AcceptedOr45to47, Demand3Of, Demand3}
 use Rattle.definitions.proofs.Results.{ok_inj, err_ok, taking_then, taking_check, both_true}
 use Rattle.definitions.proofs.Sheets.Passed.{fine}
@@ -48,11 +48,11 @@ unfolding verify_sheet
 verified p f l e = rw (le-leb (length (write_program p)) 32768 l, form p f, round_trip p f) (answered (verify_program p) e)
 
 -- what was accepted, taken apart
-accepted_form : (k : ℕ) (f : Verdict) {B G : Type 0} (r : Result Refusal B) {b : B} → (refuse_form k f >> r) ≡ ok b → (f ≡ Good → r ≡ ok b → G) → G
+accepted_form : (k : ℕ) (f : Verdict) {B G : Type 0} (r : Result Refusal B) {b : B} → (refuse_at k f >> r) ≡ ok b → (f ≡ Good → r ≡ ok b → G) → G
 accepted_form k Good r e rest = rest refl e
 accepted_form k (Bad p) r e rest = absurd (err_ok e)
 
-good_form : (k : ℕ) (f : Verdict) {u : Done} → refuse_form k f ≡ ok u → f ≡ Good
+good_form : (k : ℕ) (f : Verdict) {u : Done} → refuse_at k f ≡ ok u → f ≡ Good
 good_form k Good e = refl
 good_form k (Bad p) e = absurd (err_ok e)
 

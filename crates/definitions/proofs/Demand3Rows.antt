@@ -28,7 +28,7 @@ lacking_refuted =
     (lacking _ refl refl)  -- the_second
     (lacking _ refl refl)  -- the_last
     (lacking _ refl refl)  -- with_parameters
-    (lacking _ refl refl)  -- atOnce
+    (lacking _ refl refl)  -- at_once
     (lacking _ refl refl)  -- on_then
     (lacking _ refl refl)  -- on_else
     (lacking _ refl refl)  -- on_then_and_else
@@ -71,14 +71,14 @@ pub never_lacking_hold : NeverLackingHold
 never_lacking_hold =
     all_of NeverLacks never_lacking
     (λ f m. absurd (Memᴰ.not-nil m))  -- no_function
-    (only fine (λ words n picks. not_lacks _ (fine_runs words picks)))  -- endsAtOnce
-    (only reads_parameter (λ words n picks. not_lacks _ (parameter_runs words n picks)))  -- readsItsParameter
+    (only fine (λ words n picks. not_lacks _ (fine_runs words picks)))  -- ends_at_once
+    (only reads_parameter (λ words n picks. not_lacks _ (parameter_runs words n picks)))  -- reads_its_parameter
 
 pub taken_answers_lem : TakenAnswers
 taken_answers_lem =
     all_of AcceptedOr45to47 taken_answers
     tt  -- accepted
-    tt  -- acceptedWithBytes
+    tt  -- accepted_with_bytes
     (inl refl)  -- 45
     (inr (inl refl))  -- 46
     (inr (inr refl))  -- 47

@@ -26,10 +26,10 @@ terminators_read = record { jump = λ k. refl; branch = λ v t e. refl; return_n
 pub test_rows_hold : TestRowsHold
 test_rows_hold =
     all_of Equal test_rows
-    refl  -- secondNotHeld
-    refl  -- firstNotHeld
-    refl  -- bothHeld
-    refl  -- secondNotWritten
-    refl  -- firstNotWritten
-    refl  -- bothWritten
-    refl  -- firstOfNone
+    refl  -- second_not_held
+    refl  -- first_not_held
+    refl  -- both_held
+    refl  -- second_not_written
+    refl  -- first_not_written
+    refl  -- both_written
+    refl  -- first_of_none

@@ -9,7 +9,7 @@ start_rows_hold : RowsReach start_rows
 unfolding enter follow step_entry step steps start run
 start_rows_hold =
     all_of Reaches start_rows
-    refl  -- noBlock
+    refl  -- no_block
     refl  -- first_open
     refl  -- first_listed
     refl  -- parameters
@@ -20,20 +20,20 @@ enter_rows_hold : RowsReach enter_rows
 unfolding enter follow step_entry step steps start run
 enter_rows_hold =
     all_of Reaches enter_rows
-    refl  -- jumpNowhere
-    refl  -- jumpToAbsent
-    refl  -- jumpToZero
-    refl  -- jumpToOpen
-    refl  -- jumpThere
-    refl  -- thenNowhere
-    refl  -- elseThere
-    refl  -- thenThere
-    refl  -- elseNowhere
-    refl  -- thenToOpen
-    refl  -- elseToOpen
-    refl  -- thenWithOne
-    refl  -- elseWithZero
-    refl  -- thenOfZero
+    refl  -- jump_nowhere
+    refl  -- jump_to_absent
+    refl  -- jump_to_zero
+    refl  -- jump_to_open
+    refl  -- jump_there
+    refl  -- then_nowhere
+    refl  -- else_there
+    refl  -- then_there
+    refl  -- else_nowhere
+    refl  -- then_to_open
+    refl  -- else_to_open
+    refl  -- then_with_one
+    refl  -- else_with_zero
+    refl  -- then_of_zero
 
 visit_rows_hold : RowsReach visit_rows
 unfolding enter follow step_entry step steps start run
@@ -55,68 +55,68 @@ unfolding enter follow step_entry step steps start run
 operand_rows_hold =
     all_of Reaches operand_rows
     refl  -- const
-    refl  -- binaryBoth
-    refl  -- binaryFirst
+    refl  -- binary_both
+    refl  -- binary_first
     refl  -- binary_second
-    refl  -- loadHeld
-    refl  -- loadBase
-    refl  -- storeHeld
-    refl  -- storeBase
-    refl  -- storeValue
+    refl  -- load_held
+    refl  -- load_base
+    refl  -- store_held
+    refl  -- store_base
+    refl  -- store_value
     refl  -- state_read
-    refl  -- stateWriteHeld
-    refl  -- stateWriteValue
-    refl  -- writesLocal
-    refl  -- writeLocalValue
-    refl  -- callAll
-    refl  -- callNothing
-    refl  -- callFirst
-    refl  -- callMiddle
-    refl  -- callLast
-    refl  -- assertHeld
-    refl  -- assertCondition
-    refl  -- poseidonBoth
-    refl  -- poseidonFirst
-    refl  -- poseidonSecond
-    refl  -- emitAll
-    refl  -- emitNothing
-    refl  -- emitFirst
-    refl  -- emitMiddle
-    refl  -- emitLast
+    refl  -- state_write_held
+    refl  -- state_write_value
+    refl  -- writes_local
+    refl  -- write_local_value
+    refl  -- call_all
+    refl  -- call_nothing
+    refl  -- call_first
+    refl  -- call_middle
+    refl  -- call_last
+    refl  -- assert_held
+    refl  -- assert_condition
+    refl  -- poseidon_both
+    refl  -- poseidon_first
+    refl  -- poseidon_second
+    refl  -- emit_all
+    refl  -- emit_nothing
+    refl  -- emit_first
+    refl  -- emit_middle
+    refl  -- emit_last
     refl  -- context_read
 
 local_rows_hold : RowsReach local_rows
 unfolding enter follow step_entry step steps start run
 local_rows_hold =
     all_of Reaches local_rows
-    refl  -- notWritten
-    refl  -- ofParameter
-    refl  -- ofAbsent
-    refl  -- writtenBefore
-    refl  -- nextWritten
-    refl  -- lastWritten
-    refl  -- writtenLater
-    refl  -- writtenFirst
-    refl  -- writtenSecond
-    refl  -- notDeclared
+    refl  -- not_written
+    refl  -- of_parameter
+    refl  -- of_absent
+    refl  -- written_before
+    refl  -- next_written
+    refl  -- last_written
+    refl  -- written_later
+    refl  -- written_first
+    refl  -- written_second
+    refl  -- not_declared
 
 result_rows_hold : RowsReach result_rows
 unfolding enter follow step_entry step steps start run
 result_rows_hold =
     all_of Reaches result_rows
-    refl  -- twoResults
-    refl  -- resultAgain
-    refl  -- resultOfParameter
+    refl  -- two_results
+    refl  -- result_again
+    refl  -- result_of_parameter
     refl  -- no_result
-    refl  -- resultOfAssert
-    refl  -- resultOfVoid
-    refl  -- assertOfZero
-    refl  -- resultRead
-    refl  -- olderResultRead
-    refl  -- readsOwnResult
-    refl  -- readsZero
-    refl  -- readsAbsent
-    refl  -- readBeforeMade
+    refl  -- result_of_assert
+    refl  -- result_of_void
+    refl  -- assert_of_zero
+    refl  -- result_read
+    refl  -- older_result_read
+    refl  -- reads_own_result
+    refl  -- reads_zero
+    refl  -- reads_absent
+    refl  -- read_before_made
 
 lack_rows_hold : RowsReach lack_rows
 unfolding enter follow step_entry step steps start run
@@ -136,16 +136,16 @@ end_rows_hold : RowsReach end_rows
 unfolding enter follow step_entry step steps start run
 end_rows_hold =
     all_of Reaches end_rows
-    refl  -- branchThenNotHeld
-    refl  -- branchElseNotHeld
-    refl  -- returnNotHeld
-    refl  -- returnHeld
-    refl  -- returnNothing
+    refl  -- branch_then_not_held
+    refl  -- branch_else_not_held
+    refl  -- return_not_held
+    refl  -- return_held
+    refl  -- return_nothing
     refl  -- unreachable
-    refl  -- afterReturn
-    refl  -- afterUnreachable
+    refl  -- after_return
+    refl  -- after_unreachable
     refl  -- after_lack
-    refl  -- afterNoBlock
+    refl  -- after_no_block
 
 pub state_rows_hold : StateRowsHold
 state_rows_hold = all_of RowsReach state_rows start_rows_hold enter_rows_hold visit_rows_hold operand_rows_hold local_rows_hold result_rows_hold lack_rows_hold end_rows_hold
@@ -154,10 +154,10 @@ pub steps_rows_hold : StepsRowsHold
 unfolding enter follow step_entry step steps
 steps_rows_hold =
     all_of StepsTo steps_rows
-    refl  -- ofEarlierVisit
-    refl  -- entersAgain
-    refl  -- ofThisVisit
-    refl  -- entersFirst
+    refl  -- of_earlier_visit
+    refl  -- enters_again
+    refl  -- of_this_visit
+    refl  -- enters_first
     refl  -- no_pick
-    refl  -- fromEnd
-    refl  -- fromLack
+    refl  -- from_end
+    refl  -- from_lack

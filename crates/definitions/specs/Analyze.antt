@@ -157,8 +157,8 @@ unfoldable mutual
   analyze_expr K env (Expr.StorageRead p n) = give U64
   analyze_expr K env (Expr.MappingRead p n key) = analyze_expr K env key >> give U64
   analyze_expr K env (Expr.FieldAccess p f base) = do
-    baseTy ← analyze_expr K env base
-    access_type K p f baseTy
+    base_ty ← analyze_expr K env base
+    access_type K p f base_ty
   analyze_expr K env (Expr.StructLiteral p n fs) = elim (struct_named K n) [
     | some decl ↦ analyze_fields K env p decl.1.fields fs >> give (known (IrType.Struct n))
     | none ↦ push (SemaError.UndefinedStruct p n) >> give Unknown
@@ -167,10 +167,10 @@ unfoldable mutual
     acts ← analyze_args K env args
     call_type p n (signature_named K n) acts
   analyze_expr K env (Expr.Binary p op left right) = do
-    lTy ← analyze_expr K env left
+    l_ty ← analyze_expr K env left
     r_ty ← analyze_expr K env right
-    push_if (differs lTy r_ty) (SemaError.BinaryMismatch p)
-    give lTy
+    push_if (differs l_ty r_ty) (SemaError.BinaryMismatch p)
+    give l_ty
 
   -- the fields of the literal at p
   pub analyze_fields : Contract → Env → ℕ → List Param → FieldInits → Pushing Done
@@ -210,10 +210,10 @@ unfoldable mutual
   analyze_stmt K ret (Stmt.StorageWrite p n e) env = analyze_expr K env e >> give env
   analyze_stmt K ret (Stmt.MappingWrite p n key val) env = analyze_expr K env key >> analyze_expr K env val >> give env
   -- "A Let inside an If arm stays known afterwards here, unlike in lowering."
-  analyze_stmt K ret (Stmt.If p cond pt thenBranch elseBranch) env = do
+  analyze_stmt K ret (Stmt.If p cond pt then_branch else_branch) env = do
     analyze_expr K env cond
-    env ← analyze_stmts K ret thenBranch env
-    analyze_else K ret elseBranch env
+    env ← analyze_stmts K ret then_branch env
+    analyze_else K ret else_branch env
   analyze_stmt K ret (Stmt.While p cond pb body) env = do
     analyze_expr K env cond
     analyze_stmts K ret body env

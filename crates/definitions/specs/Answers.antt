@@ -36,9 +36,9 @@ padded (suc n) [] = 0 ∷ padded n []
 padded (suc n) (x ∷ l) = x ∷ padded n l
 
 -- 3, 4 and 40 have the place
-abbrev pub refuse_form : ℕ → Verdict → Result Refusal Done
-refuse_form k Good = ok tt
-refuse_form k (Bad place) = err (refusal k (place ∷ []))
+abbrev pub refuse_at : ℕ → Verdict → Result Refusal Done
+refuse_at k Good = ok tt
+refuse_at k (Bad place) = err (refusal k (place ∷ []))
 
 abbrev pub lower_refusal : LoweringError → Refusal
 lower_refusal (LoweringError.UndefinedVariable n) = refusal 10 (n ∷ [])
@@ -58,8 +58,8 @@ lower_refusal (LoweringError.TooManyBlocksOrLocals i) = refusal 30 (i ∷ [])
 abbrev pub check_contract : List ℕ → Result Refusal Done
 check_contract s = do
   check (leb (length s) 32768) (refusal 1 [])
-  refuse_form 3 (refusal3 s)
-  refuse_form 4 (refusal4 s)
+  refuse_at 3 (refusal3 s)
+  refuse_at 4 (refusal4 s)
 
 -- 51: "with the place .. and the number, 1 to 13, of its error text in the order of `sema.rs`"
 abbrev pub sema_refusal : SemaError → Refusal
@@ -136,6 +136,6 @@ verify_refusal (f, VerifyError.ResultOnNone k) = refusal 50 (f ∷ k ∷ [])
 unfoldable pub verify_sheet : List ℕ → Answer
 verify_sheet s = do
   check (leb (length s) 32768) (refusal 1 [])
-  refuse_form 40 (refusal40 s)
+  refuse_at 40 (refusal40 s)
   map_err verify_refusal (verify_program (read_program s))
   ok []

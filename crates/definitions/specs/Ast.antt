@@ -39,9 +39,9 @@ mutual
     Assign : (place name : ℕ) → Expr → Stmt
     StorageWrite : (place name : ℕ) → Expr → Stmt
     MappingWrite : (place name : ℕ) → Expr → Expr → Stmt
-    If : (place : ℕ) → Expr → (thenPlace : ℕ) → Stmts → OptStmts → Stmt
-    While : (place : ℕ) → Expr → (bodyPlace : ℕ) → Stmts → Stmt
-    For : (place var : ℕ) → Expr → Expr → (bodyPlace : ℕ) → Stmts → Stmt
+    If : (place : ℕ) → Expr → (then_place : ℕ) → Stmts → OptStmts → Stmt
+    While : (place : ℕ) → Expr → (body_place : ℕ) → Stmts → Stmt
+    For : (place var : ℕ) → Expr → Expr → (body_place : ℕ) → Stmts → Stmt
     Return : (place : ℕ) → OptExpr → Stmt
     Emit : (place event : ℕ) → Exprs → Stmt
     ExprStmt : (place : ℕ) → Expr → Stmt
@@ -52,7 +52,7 @@ mutual
 
   pub data OptStmts : Type 0 where
     no_else : OptStmts
-    else_do : (elsePlace : ℕ) → Stmts → OptStmts
+    else_do : (else_place : ℕ) → Stmts → OptStmts
 
 pub record StorageField : Type 0 where
   pub place : ℕ

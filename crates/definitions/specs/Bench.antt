@@ -259,9 +259,9 @@ module _ {W : Type 0} (words : Words W) where
   -- "and a Branch takes the then block unless the word is 0"
   unfoldable pub step_terminator : Machine W → Terminator → Result (Stop W) (Machine W)
   step_terminator m (Terminator.Jump k) = go_to m k
-  step_terminator m (Terminator.Branch condition thenBlock elseBlock) = do
+  step_terminator m (Terminator.Branch condition then_block else_block) = do
     a ← value_word m condition
-    go_to m (elim (eqb (words.number a) 0) [ true ↦ elseBlock | false ↦ thenBlock ])
+    go_to m (elim (eqb (words.number a) 0) [ true ↦ else_block | false ↦ then_block ])
   step_terminator m (Terminator.Return none) = give_back m none m.callers
   step_terminator m (Terminator.Return (some v)) = do
     a ← value_word m v

@@ -88,32 +88,32 @@ gets op a b n = on_words op a b (BenchOutcome.returned (some n))
 abbrev pub word_rows : List BenchRow
 word_rows =
     gets BinOp.Add 3 4 7 ∷  -- sum
-    gets BinOp.Add 18446744073709551615 0 18446744073709551615 ∷  -- greatestSum
-    gets BinOp.Add 18446744073709551615 2 1 ∷  -- sumWraps
+    gets BinOp.Add 18446744073709551615 0 18446744073709551615 ∷  -- greatest_sum
+    gets BinOp.Add 18446744073709551615 2 1 ∷  -- sum_wraps
     gets BinOp.Sub 9 4 5 ∷  -- difference
-    gets BinOp.Sub 9 9 0 ∷  -- noDifference
-    gets BinOp.Sub 0 1 18446744073709551615 ∷  -- differenceWraps
+    gets BinOp.Sub 9 9 0 ∷  -- no_difference
+    gets BinOp.Sub 0 1 18446744073709551615 ∷  -- difference_wraps
     gets BinOp.Mul 6 7 42 ∷  -- product
-    gets BinOp.Mul 4294967296 4294967297 4294967296 ∷  -- productWraps
+    gets BinOp.Mul 4294967296 4294967297 4294967296 ∷  -- product_wraps
     gets BinOp.Div 7 2 3 ∷  -- quotient
-    gets BinOp.Div 18446744073709551615 1 18446744073709551615 ∷  -- greatestQuotient
+    gets BinOp.Div 18446744073709551615 1 18446744073709551615 ∷  -- greatest_quotient
     on_words BinOp.Div 7 0 BenchOutcome.zero_divisor ∷  -- zero_divisor
     gets BinOp.Eq 7 7 1 ∷  -- equal
-    gets BinOp.Eq 7 8 0 ∷  -- notEqual
-    gets BinOp.Neq 7 7 0 ∷  -- notUnequal
+    gets BinOp.Eq 7 8 0 ∷  -- not_equal
+    gets BinOp.Neq 7 7 0 ∷  -- not_unequal
     gets BinOp.Neq 7 8 1 ∷  -- unequal
     gets BinOp.Lt 1 2 1 ∷  -- less
-    gets BinOp.Lt 2 2 0 ∷  -- notLess
-    gets BinOp.Lt 9223372036854775808 1 0 ∷  -- lessUnsigned
+    gets BinOp.Lt 2 2 0 ∷  -- not_less
+    gets BinOp.Lt 9223372036854775808 1 0 ∷  -- less_unsigned
     gets BinOp.Gt 2 1 1 ∷  -- greater
-    gets BinOp.Gt 2 2 0 ∷  -- notGreater
-    gets BinOp.Gt 9223372036854775808 1 1 ∷  -- greaterUnsigned
-    gets BinOp.Lte 2 2 1 ∷  -- atMost
-    gets BinOp.Lte 1 2 1 ∷  -- lessIsAtMost
-    gets BinOp.Lte 9223372036854775808 1 0 ∷  -- atMostUnsigned
-    gets BinOp.Gte 2 2 1 ∷  -- atLeast
-    gets BinOp.Gte 1 2 0 ∷  -- notAtLeast
-    gets BinOp.Gte 9223372036854775808 1 1 ∷ []  -- atLeastUnsigned
+    gets BinOp.Gt 2 2 0 ∷  -- not_greater
+    gets BinOp.Gt 9223372036854775808 1 1 ∷  -- greater_unsigned
+    gets BinOp.Lte 2 2 1 ∷  -- at_most
+    gets BinOp.Lte 1 2 1 ∷  -- less_is_at_most
+    gets BinOp.Lte 9223372036854775808 1 0 ∷  -- at_most_unsigned
+    gets BinOp.Gte 2 2 1 ∷  -- at_least
+    gets BinOp.Gte 1 2 0 ∷  -- not_at_least
+    gets BinOp.Gte 9223372036854775808 1 1 ∷ []  -- at_least_unsigned
 
 -- ---- THE ORDER: limit, start block, operands, then the instruction's own causes
 -- a Const, a StateWrite of it, and a Return: three steps
@@ -129,15 +129,15 @@ calls_no_blocks = bench_function 0 [] [] (block 0 (does (calls 1 []) ∷ []) not
 
 abbrev pub limit_rows : List BenchRow
 limit_rows =
-    ends_with three_steps (with_steps 0 (5 ∷ [])) BenchOutcome.limit_reached (5 ∷ []) ∷  -- noStep
-    ends_with three_steps (with_steps 1 (5 ∷ [])) BenchOutcome.limit_reached (5 ∷ []) ∷  -- oneStep
-    ends_with three_steps (with_steps 2 (5 ∷ [])) BenchOutcome.limit_reached (7 ∷ []) ∷  -- limitBeforeEnd
-    ends_with three_steps (with_steps 3 (5 ∷ [])) (BenchOutcome.returned (some 7)) (7 ∷ []) ∷  -- endingStepIsOne
-    ends_with three_steps (with_steps 4 (5 ∷ [])) (BenchOutcome.returned (some 7)) (7 ∷ []) ∷  -- oneLeft
-    ends_with no_blocks (with_steps 0 (5 ∷ [])) BenchOutcome.limit_reached (5 ∷ []) ∷  -- limitBeforeStartBlock
+    ends_with three_steps (with_steps 0 (5 ∷ [])) BenchOutcome.limit_reached (5 ∷ []) ∷  -- no_step
+    ends_with three_steps (with_steps 1 (5 ∷ [])) BenchOutcome.limit_reached (5 ∷ []) ∷  -- one_step
+    ends_with three_steps (with_steps 2 (5 ∷ [])) BenchOutcome.limit_reached (7 ∷ []) ∷  -- limit_before_end
+    ends_with three_steps (with_steps 3 (5 ∷ [])) (BenchOutcome.returned (some 7)) (7 ∷ []) ∷  -- ending_step_is_one
+    ends_with three_steps (with_steps 4 (5 ∷ [])) (BenchOutcome.returned (some 7)) (7 ∷ []) ∷  -- one_left
+    ends_with no_blocks (with_steps 0 (5 ∷ [])) BenchOutcome.limit_reached (5 ∷ []) ∷  -- limit_before_start_block
     ends_with no_blocks (with_steps 1 (5 ∷ [])) BenchOutcome.no_start_block (5 ∷ []) ∷  -- no_start_block
-    ends_with calls_no_blocks (with_steps 1 (5 ∷ [])) BenchOutcome.limit_reached (5 ∷ []) ∷  -- callIsAStep
-    ends_with calls_no_blocks (with_steps 2 (5 ∷ [])) BenchOutcome.no_start_block (5 ∷ []) ∷ []  -- noStartBlockBehindCall
+    ends_with calls_no_blocks (with_steps 1 (5 ∷ [])) BenchOutcome.limit_reached (5 ∷ []) ∷  -- call_is_a_step
+    ends_with calls_no_blocks (with_steps 2 (5 ∷ [])) BenchOutcome.no_start_block (5 ∷ []) ∷ []  -- no_start_block_behind_call
 
 -- one instruction behind a StateWrite of 7 to slot 0, with value 1 set and value 9 not: its operands come first
 abbrev doing : Instruction → List ℕ → BenchOutcome ℕ → BenchRow
@@ -150,21 +150,21 @@ passing i o state = ends_with (alone [] (gives 1 (const 7) ∷ gives 3 (const 0)
 abbrev pub order_rows : List BenchRow
 order_rows =
     doing (Instruction.Binary BinOp.Sub IrType.U64 1 1) [] (BenchOutcome.returned (some 0)) ∷  -- binary
-    doing (Instruction.Binary BinOp.Div IrType.U64 9 1) [] BenchOutcome.unset ∷  -- leftUnset
-    doing (Instruction.Binary BinOp.Div IrType.U64 1 9) [] BenchOutcome.unset ∷  -- rightUnset
+    doing (Instruction.Binary BinOp.Div IrType.U64 9 1) [] BenchOutcome.unset ∷  -- left_unset
+    doing (Instruction.Binary BinOp.Div IrType.U64 1 9) [] BenchOutcome.unset ∷  -- right_unset
     doing (Instruction.Load IrType.U64 1 3) (40 ∷ []) (BenchOutcome.returned (some 40)) ∷  -- load
-    doing (Instruction.Load IrType.U64 1 3) [] BenchOutcome.list_used_up ∷  -- loadNothingLeft
-    doing (Instruction.Load IrType.U64 9 3) [] BenchOutcome.unset ∷  -- loadBaseUnset
+    doing (Instruction.Load IrType.U64 1 3) [] BenchOutcome.list_used_up ∷  -- load_nothing_left
+    doing (Instruction.Load IrType.U64 9 3) [] BenchOutcome.unset ∷  -- load_base_unset
     doing (Instruction.Poseidon 1 1) (40 ∷ []) (BenchOutcome.returned (some 40)) ∷  -- poseidon
-    doing (Instruction.Poseidon 1 1) [] BenchOutcome.list_used_up ∷  -- poseidonNothingLeft
-    doing (Instruction.Poseidon 9 1) [] BenchOutcome.unset ∷  -- poseidonLeftUnset
-    doing (Instruction.Poseidon 1 9) [] BenchOutcome.unset ∷  -- poseidonRightUnset
-    doing (reads 0) [] (BenchOutcome.returned (some 7)) ∷  -- readsWhatWasWritten
-    doing (reads 1) [] (BenchOutcome.returned (some 6)) ∷  -- readsLastSlot
-    doing (reads 2) [] BenchOutcome.slot_absent ∷  -- readsPastEnd
-    doing (reads 4294967295) [] BenchOutcome.slot_absent ∷  -- readsNegativeSlot
-    doing (Instruction.ReadLocal 0 IrType.U64) [] BenchOutcome.unset ∷  -- localUnset
-    doing (Instruction.Const IrType.BoolT 7) [] (BenchOutcome.returned (some 7)) ∷  -- boolOfSeven
+    doing (Instruction.Poseidon 1 1) [] BenchOutcome.list_used_up ∷  -- poseidon_nothing_left
+    doing (Instruction.Poseidon 9 1) [] BenchOutcome.unset ∷  -- poseidon_left_unset
+    doing (Instruction.Poseidon 1 9) [] BenchOutcome.unset ∷  -- poseidon_right_unset
+    doing (reads 0) [] (BenchOutcome.returned (some 7)) ∷  -- reads_what_was_written
+    doing (reads 1) [] (BenchOutcome.returned (some 6)) ∷  -- reads_last_slot
+    doing (reads 2) [] BenchOutcome.slot_absent ∷  -- reads_past_end
+    doing (reads 4294967295) [] BenchOutcome.slot_absent ∷  -- reads_negative_slot
+    doing (Instruction.ReadLocal 0 IrType.U64) [] BenchOutcome.unset ∷  -- local_unset
+    doing (Instruction.Const IrType.BoolT 7) [] (BenchOutcome.returned (some 7)) ∷  -- bool_of_seven
     doing (Instruction.ContextRead 0) [] (BenchOutcome.returned (some 101)) ∷  -- sender
     doing (Instruction.ContextRead 1) [] (BenchOutcome.returned (some 102)) ∷  -- nonce
     doing (Instruction.ContextRead 2) [] (BenchOutcome.returned (some 103)) ∷ []  -- block_number
@@ -172,20 +172,20 @@ order_rows =
 abbrev pub pass_rows : List BenchRow
 pass_rows =
     passing (Instruction.Store 1 3 1) BenchOutcome.store (7 ∷ 6 ∷ []) ∷  -- store
-    passing (Instruction.Store 9 3 1) BenchOutcome.unset (7 ∷ 6 ∷ []) ∷  -- storeBaseUnset
-    passing (Instruction.Store 1 3 9) BenchOutcome.unset (7 ∷ 6 ∷ []) ∷  -- storeValueUnset
-    passing (Instruction.StateWrite 1 3) (BenchOutcome.returned (some 7)) (7 ∷ 0 ∷ []) ∷  -- writesLastSlot
-    passing (Instruction.StateWrite 2 3) BenchOutcome.slot_absent (7 ∷ 6 ∷ []) ∷  -- writesPastEnd
-    passing (Instruction.StateWrite 4294967295 3) BenchOutcome.slot_absent (7 ∷ 6 ∷ []) ∷  -- writesNegativeSlot
-    passing (Instruction.StateWrite 2 9) BenchOutcome.unset (7 ∷ 6 ∷ []) ∷  -- operandBeforeSlot
-    passing (Instruction.WriteLocal 0 1) (BenchOutcome.returned (some 7)) (7 ∷ 6 ∷ []) ∷  -- writesLocal
-    passing (Instruction.WriteLocal 0 9) BenchOutcome.unset (7 ∷ 6 ∷ []) ∷  -- writesLocalUnset
-    passing (Instruction.Assert 1) (BenchOutcome.returned (some 7)) (7 ∷ 6 ∷ []) ∷  -- assertOfSeven
-    passing (Instruction.Assert 3) (BenchOutcome.returned (some 7)) (7 ∷ 6 ∷ []) ∷  -- assertOfZero
-    passing (Instruction.Assert 9) BenchOutcome.unset (7 ∷ 6 ∷ []) ∷  -- assertUnset
+    passing (Instruction.Store 9 3 1) BenchOutcome.unset (7 ∷ 6 ∷ []) ∷  -- store_base_unset
+    passing (Instruction.Store 1 3 9) BenchOutcome.unset (7 ∷ 6 ∷ []) ∷  -- store_value_unset
+    passing (Instruction.StateWrite 1 3) (BenchOutcome.returned (some 7)) (7 ∷ 0 ∷ []) ∷  -- writes_last_slot
+    passing (Instruction.StateWrite 2 3) BenchOutcome.slot_absent (7 ∷ 6 ∷ []) ∷  -- writes_past_end
+    passing (Instruction.StateWrite 4294967295 3) BenchOutcome.slot_absent (7 ∷ 6 ∷ []) ∷  -- writes_negative_slot
+    passing (Instruction.StateWrite 2 9) BenchOutcome.unset (7 ∷ 6 ∷ []) ∷  -- operand_before_slot
+    passing (Instruction.WriteLocal 0 1) (BenchOutcome.returned (some 7)) (7 ∷ 6 ∷ []) ∷  -- writes_local
+    passing (Instruction.WriteLocal 0 9) BenchOutcome.unset (7 ∷ 6 ∷ []) ∷  -- writes_local_unset
+    passing (Instruction.Assert 1) (BenchOutcome.returned (some 7)) (7 ∷ 6 ∷ []) ∷  -- assert_of_seven
+    passing (Instruction.Assert 3) (BenchOutcome.returned (some 7)) (7 ∷ 6 ∷ []) ∷  -- assert_of_zero
+    passing (Instruction.Assert 9) BenchOutcome.unset (7 ∷ 6 ∷ []) ∷  -- assert_unset
     passing (Instruction.Emit 80 (1 ∷ 3 ∷ [])) (BenchOutcome.returned (some 7)) (7 ∷ 6 ∷ []) ∷  -- emit
-    passing (Instruction.Emit 80 (9 ∷ 1 ∷ [])) BenchOutcome.unset (7 ∷ 6 ∷ []) ∷  -- emitFirstUnset
-    passing (Instruction.Emit 80 (1 ∷ 9 ∷ [])) BenchOutcome.unset (7 ∷ 6 ∷ []) ∷ []  -- emitLastUnset
+    passing (Instruction.Emit 80 (9 ∷ 1 ∷ [])) BenchOutcome.unset (7 ∷ 6 ∷ []) ∷  -- emit_first_unset
+    passing (Instruction.Emit 80 (1 ∷ 9 ∷ [])) BenchOutcome.unset (7 ∷ 6 ∷ []) ∷ []  -- emit_last_unset
 
 -- ---- BLOCKS
 -- block 1 returns 1, block 2 returns 2
@@ -214,18 +214,18 @@ again =
 
 abbrev pub block_rows : List BenchRow
 block_rows =
-    branching 5 0 (BenchOutcome.returned (some 2)) ∷  -- zeroTakesElse
-    branching 5 1 (BenchOutcome.returned (some 1)) ∷  -- oneTakesThen
-    branching 5 7 (BenchOutcome.returned (some 1)) ∷  -- sevenTakesThen
-    branching 9 1 BenchOutcome.unset ∷  -- conditionUnset
-    ends_with listed (lending [] [] []) (BenchOutcome.returned (some 7)) [] ∷  -- firstListedAndFirstOfId
-    ends_with across (lending (40 ∷ []) [] []) (BenchOutcome.returned (some 54)) [] ∷  -- wordsLastAcrossBlocks
-    ends_with again (lending (1 ∷ []) [] []) (BenchOutcome.returned (some 0)) [] ∷  -- firstBlockAgain
-    ends_with (alone [] (gives 1 (const 7) ∷ []) (result 9)) (lending [] (5 ∷ []) []) BenchOutcome.unset (5 ∷ []) ∷  -- returnedUnset
-    ends_with (alone [] (gives 1 (const 7) ∷ []) nothing) (lending [] (5 ∷ []) []) (BenchOutcome.returned none) (5 ∷ []) ∷  -- returnedNothing
+    branching 5 0 (BenchOutcome.returned (some 2)) ∷  -- zero_takes_else
+    branching 5 1 (BenchOutcome.returned (some 1)) ∷  -- one_takes_then
+    branching 5 7 (BenchOutcome.returned (some 1)) ∷  -- seven_takes_then
+    branching 9 1 BenchOutcome.unset ∷  -- condition_unset
+    ends_with listed (lending [] [] []) (BenchOutcome.returned (some 7)) [] ∷  -- first_listed_and_first_of_id
+    ends_with across (lending (40 ∷ []) [] []) (BenchOutcome.returned (some 54)) [] ∷  -- words_last_across_blocks
+    ends_with again (lending (1 ∷ []) [] []) (BenchOutcome.returned (some 0)) [] ∷  -- first_block_again
+    ends_with (alone [] (gives 1 (const 7) ∷ []) (result 9)) (lending [] (5 ∷ []) []) BenchOutcome.unset (5 ∷ []) ∷  -- returned_unset
+    ends_with (alone [] (gives 1 (const 7) ∷ []) nothing) (lending [] (5 ∷ []) []) (BenchOutcome.returned none) (5 ∷ []) ∷  -- returned_nothing
     ends_with (alone [] [] Terminator.Unreachable) (lending [] (5 ∷ []) []) BenchOutcome.unreachable (5 ∷ []) ∷  -- unreachable
-    ends_with (alone [] [] (Terminator.Jump 7)) (lending [] (5 ∷ []) []) BenchOutcome.unset (5 ∷ []) ∷  -- missingBlock
-    ends_with (bench_function 0 [] [] (open_block 0 [] ∷ []) ∷ []) (lending [] (5 ∷ []) []) BenchOutcome.unset (5 ∷ []) ∷ []  -- missingTerminator
+    ends_with (alone [] [] (Terminator.Jump 7)) (lending [] (5 ∷ []) []) BenchOutcome.unset (5 ∷ []) ∷  -- missing_block
+    ends_with (bench_function 0 [] [] (open_block 0 [] ∷ []) ∷ []) (lending [] (5 ∷ []) []) BenchOutcome.unset (5 ∷ []) ∷ []  -- missing_terminator
 
 -- ---- OUTSIDE RESULTS: one list for Load and Poseidon, in the order in which they are run; one without a result id uses an entry up as well
 abbrev loads : ℕ → Instruction
@@ -236,11 +236,11 @@ outside_of is outside o = ends_with (alone (five ∷ []) is (result 2)) (lending
 
 abbrev pub outside_rows : List BenchRow
 outside_rows =
-    outside_of (gives 1 (loads 5) ∷ gives 2 (Instruction.Poseidon 5 1) ∷ []) (40 ∷ 50 ∷ 60 ∷ []) (BenchOutcome.returned (some 50)) ∷  -- loadThenPoseidon
-    outside_of (gives 1 (Instruction.Poseidon 5 5) ∷ gives 2 (loads 1) ∷ []) (40 ∷ 50 ∷ 60 ∷ []) (BenchOutcome.returned (some 50)) ∷  -- poseidonThenLoad
-    outside_of (does (loads 5) ∷ gives 2 (Instruction.Poseidon 5 5) ∷ []) (40 ∷ 50 ∷ []) (BenchOutcome.returned (some 50)) ∷  -- loadWithoutResult
-    outside_of (does (Instruction.Poseidon 5 5) ∷ gives 2 (loads 5) ∷ []) (40 ∷ 50 ∷ []) (BenchOutcome.returned (some 50)) ∷  -- poseidonWithoutResult
-    outside_of (does (loads 5) ∷ gives 2 (Instruction.Poseidon 5 5) ∷ []) (40 ∷ []) BenchOutcome.list_used_up ∷ []  -- usedUp
+    outside_of (gives 1 (loads 5) ∷ gives 2 (Instruction.Poseidon 5 1) ∷ []) (40 ∷ 50 ∷ 60 ∷ []) (BenchOutcome.returned (some 50)) ∷  -- load_then_poseidon
+    outside_of (gives 1 (Instruction.Poseidon 5 5) ∷ gives 2 (loads 1) ∷ []) (40 ∷ 50 ∷ 60 ∷ []) (BenchOutcome.returned (some 50)) ∷  -- poseidon_then_load
+    outside_of (does (loads 5) ∷ gives 2 (Instruction.Poseidon 5 5) ∷ []) (40 ∷ 50 ∷ []) (BenchOutcome.returned (some 50)) ∷  -- load_without_result
+    outside_of (does (Instruction.Poseidon 5 5) ∷ gives 2 (loads 5) ∷ []) (40 ∷ 50 ∷ []) (BenchOutcome.returned (some 50)) ∷  -- poseidon_without_result
+    outside_of (does (loads 5) ∷ gives 2 (Instruction.Poseidon 5 5) ∷ []) (40 ∷ []) BenchOutcome.list_used_up ∷ []  -- used_up
 
 -- ---- CALLS
 -- values 1 and 2 are 7 and 4; function 1 is called with some, and what it gives is returned
@@ -258,17 +258,17 @@ subtracts = called (gives 7 (Instruction.Binary BinOp.Sub IrType.U64 5 6) ∷ []
 
 abbrev pub call_rows : List BenchRow
 call_rows =
-    calling (1 ∷ 2 ∷ []) subtracts (BenchOutcome.returned (some 3)) ∷  -- takesReturnedWord
-    calling (2 ∷ 1 ∷ []) subtracts (BenchOutcome.returned (some 18446744073709551613)) ∷  -- argumentsInOrder
-    calling (1 ∷ []) subtracts BenchOutcome.unset ∷  -- missingArgumentUnset
-    calling (1 ∷ []) (called [] (result 5)) (BenchOutcome.returned (some 7)) ∷  -- otherArgumentSet
-    calling (1 ∷ 2 ∷ 2 ∷ []) subtracts (BenchOutcome.returned (some 3)) ∷  -- extraArgumentDropped
-    calling (1 ∷ 2 ∷ 9 ∷ []) subtracts BenchOutcome.unset ∷  -- droppedArgumentIsOperand
-    calling (9 ∷ 1 ∷ []) (called [] (result 6)) BenchOutcome.unset ∷  -- firstArgumentUnset
-    calling [] (called [] nothing) BenchOutcome.unset ∷  -- resultUnsetWithoutWord
-    calling [] (called [] (result 1)) BenchOutcome.unset ∷  -- callersValueNotSeen
-    calling [] (called (gives 7 (Instruction.ReadLocal 0 IrType.U64) ∷ []) (result 7)) BenchOutcome.unset ∷  -- callersLocalNotSeen
-    calling [] (called [] Terminator.Unreachable) BenchOutcome.unreachable ∷ []  -- endsInside
+    calling (1 ∷ 2 ∷ []) subtracts (BenchOutcome.returned (some 3)) ∷  -- takes_returned_word
+    calling (2 ∷ 1 ∷ []) subtracts (BenchOutcome.returned (some 18446744073709551613)) ∷  -- arguments_in_order
+    calling (1 ∷ []) subtracts BenchOutcome.unset ∷  -- missing_argument_unset
+    calling (1 ∷ []) (called [] (result 5)) (BenchOutcome.returned (some 7)) ∷  -- other_argument_set
+    calling (1 ∷ 2 ∷ 2 ∷ []) subtracts (BenchOutcome.returned (some 3)) ∷  -- extra_argument_dropped
+    calling (1 ∷ 2 ∷ 9 ∷ []) subtracts BenchOutcome.unset ∷  -- dropped_argument_is_operand
+    calling (9 ∷ 1 ∷ []) (called [] (result 6)) BenchOutcome.unset ∷  -- first_argument_unset
+    calling [] (called [] nothing) BenchOutcome.unset ∷  -- result_unset_without_word
+    calling [] (called [] (result 1)) BenchOutcome.unset ∷  -- callers_value_not_seen
+    calling [] (called (gives 7 (Instruction.ReadLocal 0 IrType.U64) ∷ []) (result 7)) BenchOutcome.unset ∷  -- callers_local_not_seen
+    calling [] (called [] Terminator.Unreachable) BenchOutcome.unreachable ∷ []  -- ends_inside
 
 -- the called function has a value 1 and a local 0 too; the caller's own are there after it, and no result id takes a word
 abbrev own_words : List IrFunction
@@ -299,13 +299,13 @@ at_position k o = record { functions = ids_apart; position = k; loan = lending [
 
 abbrev pub program_rows : List BenchRow
 program_rows =
-    ends_with own_words (lending [] (5 ∷ []) []) (BenchOutcome.returned (some 14)) (5 ∷ []) ∷  -- ownWordsAfterCall
-    ends_with nested (lending (1 ∷ []) (0 ∷ 0 ∷ 0 ∷ []) (40 ∷ 45 ∷ 60 ∷ [])) (BenchOutcome.returned (some 60)) (5 ∷ 5 ∷ 5 ∷ []) ∷  -- callsInCalls
-    ends_with becomes_unset (lending [] (0 ∷ []) []) BenchOutcome.unset (7 ∷ []) ∷  -- fromSetToUnset
-    at_position 0 (BenchOutcome.returned (some 1)) ∷  -- firstPosition
-    at_position 1 (BenchOutcome.returned (some 1)) ∷  -- firstFunctionWithId
-    at_position 2 (BenchOutcome.returned (some 2)) ∷  -- positionIsNoId
-    ends_with (alone [] (does (calls 9 []) ∷ []) nothing) (lending [] (5 ∷ []) []) BenchOutcome.unset (5 ∷ []) ∷ []  -- missingFunction
+    ends_with own_words (lending [] (5 ∷ []) []) (BenchOutcome.returned (some 14)) (5 ∷ []) ∷  -- own_words_after_call
+    ends_with nested (lending (1 ∷ []) (0 ∷ 0 ∷ 0 ∷ []) (40 ∷ 45 ∷ 60 ∷ [])) (BenchOutcome.returned (some 60)) (5 ∷ 5 ∷ 5 ∷ []) ∷  -- calls_in_calls
+    ends_with becomes_unset (lending [] (0 ∷ []) []) BenchOutcome.unset (7 ∷ []) ∷  -- from_set_to_unset
+    at_position 0 (BenchOutcome.returned (some 1)) ∷  -- first_position
+    at_position 1 (BenchOutcome.returned (some 1)) ∷  -- first_function_with_id
+    at_position 2 (BenchOutcome.returned (some 2)) ∷  -- position_is_no_id
+    ends_with (alone [] (does (calls 9 []) ∷ []) nothing) (lending [] (5 ∷ []) []) BenchOutcome.unset (5 ∷ []) ∷ []  -- missing_function
 
 -- ---- MEMORY: 9 bytes for each parameter, result id and local, over all open functions; state words are 5 at first
 abbrev pub enough : List IrFunction → ℕ → List ℕ → BenchRow
@@ -339,22 +339,22 @@ counted state memory limit = record { args = []; state = state; outside = []; me
 
 abbrev pub memory_rows : List BenchRow
 memory_rows =
-    enough (alone (five ∷ []) [] nothing) 9 (1 ∷ []) ∷  -- oneParameter
-    short (alone (five ∷ []) [] nothing) 8 (1 ∷ []) ∷  -- oneParameterShort
+    enough (alone (five ∷ []) [] nothing) 9 (1 ∷ []) ∷  -- one_parameter
+    short (alone (five ∷ []) [] nothing) 8 (1 ∷ []) ∷  -- one_parameter_short
     enough one_local 9 [] ∷  -- one_local
-    short one_local 8 [] ∷  -- oneLocalShort
-    enough two_blocks 18 [] ∷  -- resultsOfAllBlocks
-    short two_blocks 17 [] ∷  -- resultsOfAllBlocksShort
-    refused two_blocks (counted (5 ∷ []) 17 0) 53 (5 ∷ []) ∷  -- shortEvenWithLimitZero
-    refused (bench_function 0 (five ∷ []) [] [] ∷ []) (with_memory 8 (1 ∷ [])) 53 (5 ∷ []) ∷  -- shortBeforeStartBlock
-    ends_with three_open (with_memory 54 []) (BenchOutcome.returned none) (7 ∷ []) ∷  -- givenBackAtReturn
-    refused three_open (with_memory 53 []) 53 (7 ∷ []) ∷  -- shortAtThirdOpen
-    refused three_open (with_memory 26 []) 53 (7 ∷ []) ∷  -- shortAtSecondOpen
-    ends_with (alone [] (gives 1 (const 7) ∷ does (calls 0 (9 ∷ [])) ∷ []) nothing) (with_memory 9 []) BenchOutcome.unset (5 ∷ []) ∷  -- operandsBeforeMemory
-    ends_with (counting []) (counted (0 ∷ []) 720 128) BenchOutcome.seventeenth (16 ∷ []) ∷  -- sixteenOpen
-    ends_with (counting []) (counted (0 ∷ []) 720 127) BenchOutcome.limit_reached (16 ∷ []) ∷  -- sixteenthGoesOn
-    refused (counting []) (counted (0 ∷ []) 719 999) 53 (15 ∷ []) ∷  -- sixteenthShort
-    ends_with (counting (9 ∷ [])) (counted (0 ∷ []) 720 999) BenchOutcome.unset (16 ∷ []) ∷ []  -- operandsBeforeSeventeenth
+    short one_local 8 [] ∷  -- one_local_short
+    enough two_blocks 18 [] ∷  -- results_of_all_blocks
+    short two_blocks 17 [] ∷  -- results_of_all_blocks_short
+    refused two_blocks (counted (5 ∷ []) 17 0) 53 (5 ∷ []) ∷  -- short_even_with_limit_zero
+    refused (bench_function 0 (five ∷ []) [] [] ∷ []) (with_memory 8 (1 ∷ [])) 53 (5 ∷ []) ∷  -- short_before_start_block
+    ends_with three_open (with_memory 54 []) (BenchOutcome.returned none) (7 ∷ []) ∷  -- given_back_at_return
+    refused three_open (with_memory 53 []) 53 (7 ∷ []) ∷  -- short_at_third_open
+    refused three_open (with_memory 26 []) 53 (7 ∷ []) ∷  -- short_at_second_open
+    ends_with (alone [] (gives 1 (const 7) ∷ does (calls 0 (9 ∷ [])) ∷ []) nothing) (with_memory 9 []) BenchOutcome.unset (5 ∷ []) ∷  -- operands_before_memory
+    ends_with (counting []) (counted (0 ∷ []) 720 128) BenchOutcome.seventeenth (16 ∷ []) ∷  -- sixteen_open
+    ends_with (counting []) (counted (0 ∷ []) 720 127) BenchOutcome.limit_reached (16 ∷ []) ∷  -- sixteenth_goes_on
+    refused (counting []) (counted (0 ∷ []) 719 999) 53 (15 ∷ []) ∷  -- sixteenth_short
+    ends_with (counting (9 ∷ [])) (counted (0 ∷ []) 720 999) BenchOutcome.unset (16 ∷ []) ∷ []  -- operands_before_seventeenth
 
 -- ---- 52 "if the function position is absent or the argument count differs, given first"
 abbrev refused_at : ℕ → Loan → BenchRow
@@ -362,8 +362,8 @@ refused_at k l = record { functions = alone (five ∷ six ∷ []) (gives 1 (cons
 
 abbrev pub refusal_rows : List BenchRow
 refusal_rows =
-    refused_at 1 (lending (1 ∷ 2 ∷ []) (5 ∷ []) []) ∷  -- positionAbsent
-    refused_at 0 (lending (1 ∷ []) (5 ∷ []) []) ∷  -- argumentMissing
-    refused_at 0 (lending (1 ∷ 2 ∷ 3 ∷ []) (5 ∷ []) []) ∷  -- argumentTooMany
-    refused_at 1 (with_memory 0 (1 ∷ 2 ∷ [])) ∷  -- positionBeforeMemory
-    refused_at 0 (record { args = []; state = 5 ∷ []; outside = []; memory = 0; limit = 0 }) ∷ []  -- countBeforeMemoryAndLimit
+    refused_at 1 (lending (1 ∷ 2 ∷ []) (5 ∷ []) []) ∷  -- position_absent
+    refused_at 0 (lending (1 ∷ []) (5 ∷ []) []) ∷  -- argument_missing
+    refused_at 0 (lending (1 ∷ 2 ∷ 3 ∷ []) (5 ∷ []) []) ∷  -- argument_too_many
+    refused_at 1 (with_memory 0 (1 ∷ 2 ∷ [])) ∷  -- position_before_memory
+    refused_at 0 (record { args = []; state = 5 ∷ []; outside = []; memory = 0; limit = 0 }) ∷ []  -- count_before_memory_and_limit

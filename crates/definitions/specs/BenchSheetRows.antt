@@ -83,13 +83,13 @@ abbrev pub bench_sheet_rows : List BenchSheetRow
 bench_sheet_rows =
     comes returns_second 0 (lent (7 ∷ 8 ∷ []) 18 2) (BenchOutcome.returned (some 8)) (7 ∷ 6 ∷ []) (0 ∷ 1 ∷ 8 ∷ []) ∷  -- returned
     comes returns_second 0 (lent (7 ∷ 8 ∷ []) 18 1) BenchOutcome.limit_reached (7 ∷ 6 ∷ []) (0 ∷ 11 ∷ 0 ∷ []) ∷  -- limit_reached
-    comes contextual 0 (lending [] (5 ∷ 6 ∷ 7 ∷ []) (40 ∷ [])) (BenchOutcome.returned (some 40)) (101 ∷ 102 ∷ 103 ∷ []) (0 ∷ 1 ∷ 40 ∷ []) ∷  -- contextWords
+    comes contextual 0 (lending [] (5 ∷ 6 ∷ 7 ∷ []) (40 ∷ [])) (BenchOutcome.returned (some 40)) (101 ∷ 102 ∷ 103 ∷ []) (0 ∷ 1 ∷ 40 ∷ []) ∷  -- context_words
     stays returns_second 0 (lent (7 ∷ 8 ∷ []) 17 2) 53 [] ∷  -- short
-    stays returns_second 0 (lent (7 ∷ []) 17 0) 52 [] ∷  -- argumentMissing
-    stays returns_second 1 (lent (7 ∷ 8 ∷ []) 17 0) 52 [] ∷  -- positionAbsent
-    stays returns_nine 1 (lent [] 0 0) 41 (11 ∷ 9 ∷ []) ∷  -- verifierBeforeBench
-    stays returns_none 1 (lent [] 0 0) 45 (11 ∷ 0 ∷ 0 ∷ 65535 ∷ 0 ∷ []) ∷  -- fiveDetails
-    stays [] 1 (lent [] 0 0) 40 (0 ∷ []) ∷ []  -- noBytes
+    stays returns_second 0 (lent (7 ∷ []) 17 0) 52 [] ∷  -- argument_missing
+    stays returns_second 1 (lent (7 ∷ 8 ∷ []) 17 0) 52 [] ∷  -- position_absent
+    stays returns_nine 1 (lent [] 0 0) 41 (11 ∷ 9 ∷ []) ∷  -- verifier_before_bench
+    stays returns_none 1 (lent [] 0 0) 45 (11 ∷ 0 ∷ 0 ∷ 65535 ∷ 0 ∷ []) ∷  -- five_details
+    stays [] 1 (lent [] 0 0) 40 (0 ∷ []) ∷ []  -- no_bytes
 
 abbrev pub BenchSheetRowsHold : Type 0
 BenchSheetRowsHold = All SheetTries bench_sheet_rows
@@ -221,13 +221,13 @@ stops = BenchState.stopped (Stop.outcome (BenchOutcome.returned (some (7, IrType
 
 abbrev pub reached_rows : List ReachedRow
 reached_rows =
-    after 9 (goes_on (made_open 4 (gives 18 (Instruction.Call 1 (6 ∷ 10 ∷ []) (IrType.Struct 31)) ∷ behind_call) (Terminator.Jump 5) made) [] (5 ∷ 6 ∷ [])) ∷  -- wordsMade
+    after 9 (goes_on (made_open 4 (gives 18 (Instruction.Call 1 (6 ∷ 10 ∷ []) (IrType.Struct 31)) ∷ behind_call) (Terminator.Jump 5) made) [] (5 ∷ 6 ∷ [])) ∷  -- words_made
     after 10 in_call ∷  -- in_call
-    after 11 (goes_on (made_open 4 behind_call (Terminator.Jump 5) with_result) [] (5 ∷ 6 ∷ [])) ∷  -- givenBack
-    after 12 (goes_on (made_open 4 [] (Terminator.Jump 5) with_result) [] (5 ∷ 7 ∷ [])) ∷  -- stateWritten
+    after 11 (goes_on (made_open 4 behind_call (Terminator.Jump 5) with_result) [] (5 ∷ 6 ∷ [])) ∷  -- given_back
+    after 12 (goes_on (made_open 4 [] (Terminator.Jump 5) with_result) [] (5 ∷ 7 ∷ [])) ∷  -- state_written
     after 13 (goes_on (made_open 5 [] (Terminator.Return (some 18)) with_result) [] (5 ∷ 7 ∷ [])) ∷  -- jumped
     after 14 stops ∷  -- stops
-    after 15 stops ∷ []  -- staysStopped
+    after 15 stops ∷ []  -- stays_stopped
 
 abbrev pub ReachedRowsHold : Type 0
 ReachedRowsHold = All Reached reached_rows
@@ -243,8 +243,8 @@ numbers_with o = bench_numbers (record { answer = ok o; state = [] })
 
 abbrev pub number_rows : List (List ℕ × List ℕ)
 number_rows =
-    (numbers_with (BenchOutcome.returned (some 42)), 0 ∷ 1 ∷ 42 ∷ []) ∷  -- returnedWord
-    (numbers_with (BenchOutcome.returned none), 0 ∷ 2 ∷ 0 ∷ []) ∷  -- returnedNothing
+    (numbers_with (BenchOutcome.returned (some 42)), 0 ∷ 1 ∷ 42 ∷ []) ∷  -- returned_word
+    (numbers_with (BenchOutcome.returned none), 0 ∷ 2 ∷ 0 ∷ []) ∷  -- returned_nothing
     (numbers_with BenchOutcome.zero_divisor, 0 ∷ 3 ∷ 0 ∷ []) ∷  -- zero_divisor
     (numbers_with BenchOutcome.list_used_up, 0 ∷ 4 ∷ 0 ∷ []) ∷  -- list_used_up
     (numbers_with BenchOutcome.slot_absent, 0 ∷ 5 ∷ 0 ∷ []) ∷  -- slot_absent

@@ -2,7 +2,7 @@
 use Rattle.std.specs.Prelude.{ℕ, suc, ◌+◌, Bool, false, ◌&&◌, ◌||◌, List, [], ◌∷◌, map, leb, eqb, length}
 use Rattle.definitions.specs.Ast.{BinOp, Expr, Exprs, enil, econs, FieldInits, fnil, fcons, OptExpr, absent, present, Stmt, Stmts, snil, scons, OptStmts, no_else, else_do, StorageField, Param, Struct, Function, Contract}
 use Rattle.definitions.specs.Grammar.{Class, one, done}
-use Rattle.definitions.specs.Records.{pick, Item, small, opt, word, ty, param, pair, FieldValue, item, group, rest, Tree, node, Trees, tnil, tcons, write_tree, read_records, Verdict, Good, Bad, and_then, check_records, items_at, num_at, opt_at, gather, treesOf, ReadsAll, u16}
+use Rattle.definitions.specs.Records.{pick, Item, small, opt, word, ty, param, pair, FieldValue, item, group, rest, Tree, node, Trees, tnil, tcons, write_tree, read_records, Verdict, Good, Bad, and_then, check_records, items_at, num_at, opt_at, gather, trees_of, ReadsAll, u16}
 
 -- READING, of a sheet that passed refusal 3. The last case of a chain of tests has none: a comment says for which kind it stands. No other kind is met
 -- there: it would be written back as that kind, and `NothingOverlooked`, at the end of this file, says that writing gives the very bytes that were read.
@@ -281,7 +281,7 @@ unfoldable pub function_tree : Function → Tree
 function_tree f = node f.place 4 (u16 f.name ∷ item (opt f.return_type) ∷ u16 (pick f.is_pub 1 0) ∷ group (map param_pair f.params) ∷ []) (stmt_trees f.body)
 
 unfoldable pub contract_tree : Contract → Tree
-contract_tree K = node K.place 1 (u16 K.name ∷ []) (treesOf storage_tree K.storage (treesOf struct_tree K.structs (treesOf function_tree K.functions tnil)))
+contract_tree K = node K.place 1 (u16 K.name ∷ []) (trees_of storage_tree K.storage (trees_of struct_tree K.structs (trees_of function_tree K.functions tnil)))
 
 unfoldable pub write_contract : Contract → List ℕ
 write_contract K = write_tree (contract_tree K)

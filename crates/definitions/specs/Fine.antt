@@ -22,5 +22,5 @@ pub data Fine (s : List ℕ) : ℕ → ℕ → Pattern → Type 0 where
   goes : {at end b stop : ℕ} {q r p : Pattern} {c : Class} {fs : List Field} → Head s at end c fs p b stop → after q c ≡ left r → Fine s b stop p → Fine s stop end r → Fine s at end q
 
 -- where the own fields of an instruction or terminator start, from the record's place: after its length, its kind and its origin
-abbrev pub own_start : ℕ
-own_start = 6 + origin_width
+abbrev pub fields_start : ℕ
+fields_start = 6 + origin_width

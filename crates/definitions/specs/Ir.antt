@@ -149,7 +149,7 @@ local_written (Instruction.ContextRead k) = []
 
 pub data Terminator : Type 0 where
   Jump : (target : ℕ) → Terminator
-  Branch : (condition thenBlock elseBlock : ℕ) → Terminator
+  Branch : (condition then_block else_block : ℕ) → Terminator
   Return : (value : Option ℕ) → Terminator
   Unreachable : Terminator
 

@@ -193,19 +193,19 @@ result_value (some t) v = some (v, t)
 
 -- `lower_call`, given how many arguments there are and how they are lowered
 unfoldable pub lower_call : Contract → Callee → ℕ → ℕ → (FnCtx → Lowering (FnCtx × List ℕ)) → FnCtx → Lowering Lowered
-lower_call K (context_fn k) n many lowerArguments c = ok (push_value (Instruction.ContextRead k) IrType.U64 c)
-lower_call K poseidon_fn n many lowerArguments c =
+lower_call K (context_fn k) n many lower_arguments c = ok (push_value (Instruction.ContextRead k) IrType.U64 c)
+lower_call K poseidon_fn n many lower_arguments c =
     elim (eqb many 2) [
       | false ↦ err LoweringError.PoseidonArguments
       | true ↦ do
-        (c, args) ← lowerArguments c
+        (c, args) ← lower_arguments c
         (lhs, rhs) ← ok_or_else (two_of args) LoweringError.PoseidonArguments
         ok (push_value (Instruction.Poseidon lhs rhs) IrType.U64 c)
     ]
-lower_call K merkle_proof_fn n many lowerArguments c = err LoweringError.MerkleProof
-lower_call K user_fn n many lowerArguments c = do
+lower_call K merkle_proof_fn n many lower_arguments c = err LoweringError.MerkleProof
+lower_call K user_fn n many lower_arguments c = do
   (fid, f) ← ok_or_else (function_named K n) (LoweringError.UndefinedFunction n)
-  (c, args) ← lowerArguments c
+  (c, args) ← lower_arguments c
   ok (push_instr (Instruction.Call fid args (Sema.return_type f.return_type)) c, result_value (unless_void (Sema.return_type f.return_type)) c.next_value)
 
 unfoldable mutual
@@ -267,21 +267,21 @@ lower_body k s body finish c = do
 
 -- the test of a `for` in its header, and the branch
 unfoldable pub for_header : ℕ → ℕ → ℕ → ℕ → FnCtx → FnCtx
-for_header loopLocal endLocal body exit c =
-    let c₁ = push_instr (Instruction.ReadLocal loopLocal IrType.U64) c in
-    let c₂ = push_instr (Instruction.ReadLocal endLocal IrType.U64) c₁ in
+for_header loop_local end_local body exit c =
+    let c₁ = push_instr (Instruction.ReadLocal loop_local IrType.U64) c in
+    let c₂ = push_instr (Instruction.ReadLocal end_local IrType.U64) c₁ in
     let c₃ = push_instr (Instruction.Binary BinOp.Lt IrType.U64 c.next_value c₁.next_value) c₂ in
     set_terminator (Terminator.Branch c₂.next_value body exit) c₃
 
 -- `i += 1` and the jump back, if the body's end is open
 unfoldable pub for_step : ℕ → ℕ → FnCtx → FnCtx
-for_step loopLocal header c = elim (current_block_terminated c) [
+for_step loop_local header c = elim (current_block_terminated c) [
   | true ↦ c
   | false ↦
-      let c₁ = push_instr (Instruction.ReadLocal loopLocal IrType.U64) c in
+      let c₁ = push_instr (Instruction.ReadLocal loop_local IrType.U64) c in
       let c₂ = push_instr (Instruction.Const IrType.U64 1) c₁ in
       let c₃ = push_instr (Instruction.Binary BinOp.Add IrType.U64 c.next_value c₁.next_value) c₂ in
-      set_terminator (Terminator.Jump header) (push_instr (Instruction.WriteLocal loopLocal c₂.next_value) c₃)
+      set_terminator (Terminator.Jump header) (push_instr (Instruction.WriteLocal loop_local c₂.next_value) c₃)
 ]
 
 -- a statement in a terminated block is skipped
@@ -312,24 +312,24 @@ unfoldable mutual
     (slot, _) ← ok_or_else (storage_named K n) (LoweringError.UndefinedVariable n)
     (c, (v, _)) ← lower_expr_value K e c
     ok (push_instr (Instruction.StateWrite slot v) c)
-  lower_stmt K (Stmt.If p cond pt thenBody elseBody) c = do
+  lower_stmt K (Stmt.If p cond pt then_body else_body) c = do
     (c, (v, _)) ← lower_expr_value K cond c
-    (c, thenBlock, elseBlock, mergeBlock) ← three_blocks c
-    c ← lower_body thenBlock [] (λ d. lower_stmts K thenBody d) (terminate_if_open (Terminator.Jump mergeBlock)) (set_terminator (Terminator.Branch v thenBlock elseBlock) c)
-    c ← lower_body elseBlock [] (λ d. lower_else K elseBody d) (terminate_if_open (Terminator.Jump mergeBlock)) c
-    ok (switch_to mergeBlock c)
+    (c, then_block, else_block, merge_block) ← three_blocks c
+    c ← lower_body then_block [] (λ d. lower_stmts K then_body d) (terminate_if_open (Terminator.Jump merge_block)) (set_terminator (Terminator.Branch v then_block else_block) c)
+    c ← lower_body else_block [] (λ d. lower_else K else_body d) (terminate_if_open (Terminator.Jump merge_block)) c
+    ok (switch_to merge_block c)
   lower_stmt K (Stmt.While p cond pb body) c = do
-    (c, header, bodyBlock, exit) ← three_blocks c
+    (c, header, body_block, exit) ← three_blocks c
     (c, (v, _)) ← lower_expr_value K cond (switch_to header (set_terminator (Terminator.Jump header) c))
-    c ← lower_body bodyBlock [] (λ d. lower_stmts K body d) (terminate_if_open (Terminator.Jump header)) (set_terminator (Terminator.Branch v bodyBlock exit) c)
+    c ← lower_body body_block [] (λ d. lower_stmts K body d) (terminate_if_open (Terminator.Jump header)) (set_terminator (Terminator.Branch v body_block exit) c)
     ok (switch_to exit c)
   lower_stmt K (Stmt.For p var start end pb body) c = do
     (c, (start_val, _)) ← lower_expr_value K start c
-    (c, (endVal, _)) ← lower_expr_value K end c
-    (c, loopLocal) ← init_local IrType.U64 start_val c
-    (c, endLocal) ← init_local IrType.U64 endVal c
-    (c, header, bodyBlock, exit) ← three_blocks c
-    c ← lower_body bodyBlock ((var, loopLocal, IrType.U64) ∷ []) (λ d. lower_stmts K body d) (for_step loopLocal header) (for_header loopLocal endLocal bodyBlock exit (switch_to header (set_terminator (Terminator.Jump header) c)))
+    (c, (end_val, _)) ← lower_expr_value K end c
+    (c, loop_local) ← init_local IrType.U64 start_val c
+    (c, end_local) ← init_local IrType.U64 end_val c
+    (c, header, body_block, exit) ← three_blocks c
+    c ← lower_body body_block ((var, loop_local, IrType.U64) ∷ []) (λ d. lower_stmts K body d) (for_step loop_local header) (for_header loop_local end_local body_block exit (switch_to header (set_terminator (Terminator.Jump header) c)))
     ok (switch_to exit c)
   lower_stmt K (Stmt.Return p e) c = lower_return K e c
   lower_stmt K (Stmt.Emit p n args) c = do

@@ -5,7 +5,7 @@ use Rattle.definitions.specs.Ast.{BinOp}
 use Rattle.definitions.specs.Ir.{IrType, Instruction, Terminator, InstrNode, BasicBlock, IrFunction, IrProgram}
 use Rattle.definitions.specs.InstrTable.{kind_of}
 use Rattle.definitions.specs.Grammar.{Class, one, done, origin_width}
-use Rattle.definitions.specs.Records.{pick, Item, small, opt, word, ty, param, FieldValue, item, group, rest, Tree, node, Trees, tnil, tcons, write_tree, read_records, Verdict, check_records, number_of, type_of, items_at, num_at, type_at, opt_at, gather, treesOf, ReadsAll, u16}
+use Rattle.definitions.specs.Records.{pick, Item, small, opt, word, ty, param, FieldValue, item, group, rest, Tree, node, Trees, tnil, tcons, write_tree, read_records, Verdict, check_records, number_of, type_of, items_at, num_at, type_at, opt_at, gather, trees_of, ReadsAll, u16}
 
 -- WRITING. A record that is written has no place yet: 0 stands for it.
 abbrev unplaced : ℕ → List FieldValue → Trees → Tree
@@ -54,7 +54,7 @@ opt_term_tree none = tnil
 opt_term_tree (some t) = tcons (term_tree t) tnil
 
 abbrev pub block_tree : BasicBlock → Tree
-block_tree b = unplaced 53 (u16 b.id ∷ []) (treesOf instr_tree b.instrs (opt_term_tree b.terminator))
+block_tree b = unplaced 53 (u16 b.id ∷ []) (trees_of instr_tree b.instrs (opt_term_tree b.terminator))
 
 abbrev pub param_item : ℕ × IrType → Item
 param_item p = param p.0 p.1
@@ -62,13 +62,13 @@ param_item p = param p.0 p.1
 abbrev pub ir_function_tree : IrFunction → Tree
 ir_function_tree f =
     unplaced 51 (u16 f.id ∷ u16 f.name ∷ type f.ret_ty ∷ group (map param_item f.params) ∷ group (map ty f.locals) ∷ [])
-    (treesOf block_tree f.blocks tnil)
+    (trees_of block_tree f.blocks tnil)
 
 abbrev pub function_name_tree : ℕ × ℕ → Tree
 function_name_tree p = unplaced 52 (u16 p.0 ∷ u16 p.1 ∷ []) tnil
 
 abbrev pub program_tree : IrProgram → Tree
-program_tree p = unplaced 50 [] (treesOf ir_function_tree p.functions (treesOf function_name_tree p.function_names tnil))
+program_tree p = unplaced 50 [] (trees_of ir_function_tree p.functions (trees_of function_name_tree p.function_names tnil))
 
 unfoldable pub write_program : IrProgram → List ℕ
 write_program p = write_tree (program_tree p)

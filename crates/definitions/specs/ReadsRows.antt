@@ -49,13 +49,13 @@ Equal r = r.0 ≡ r.1
 -- all of a list, whatever stands first; no block is the first of none
 abbrev pub test_rows : List (Bool × Bool)
 test_rows =
-    (all_held (1 ∷ 2 ∷ []) ((1, 10) ∷ []), false) ∷  -- secondNotHeld
-    (all_held (2 ∷ 1 ∷ []) ((1, 10) ∷ []), false) ∷  -- firstNotHeld
-    (all_held (1 ∷ 2 ∷ []) ((2, 20) ∷ (1, 10) ∷ []), true) ∷  -- bothHeld
-    (all_written (1 ∷ 2 ∷ []) (1 ∷ []), false) ∷  -- secondNotWritten
-    (all_written (2 ∷ 1 ∷ []) (1 ∷ []), false) ∷  -- firstNotWritten
-    (all_written (1 ∷ 2 ∷ []) (2 ∷ 1 ∷ []), true) ∷  -- bothWritten
-    (is_first 0 [], false) ∷ []  -- firstOfNone
+    (all_held (1 ∷ 2 ∷ []) ((1, 10) ∷ []), false) ∷  -- second_not_held
+    (all_held (2 ∷ 1 ∷ []) ((1, 10) ∷ []), false) ∷  -- first_not_held
+    (all_held (1 ∷ 2 ∷ []) ((2, 20) ∷ (1, 10) ∷ []), true) ∷  -- both_held
+    (all_written (1 ∷ 2 ∷ []) (1 ∷ []), false) ∷  -- second_not_written
+    (all_written (2 ∷ 1 ∷ []) (1 ∷ []), false) ∷  -- first_not_written
+    (all_written (1 ∷ 2 ∷ []) (2 ∷ 1 ∷ []), true) ∷  -- both_written
+    (is_first 0 [], false) ∷ []  -- first_of_none
 
 abbrev pub TestRowsHold : Type 0
 TestRowsHold = All Equal test_rows

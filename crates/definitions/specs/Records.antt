@@ -307,9 +307,9 @@ abbrev pub gather {ℓ} : {A : Type ℓ} → (lo hi : ℕ) → (Tree → A) → 
 gather lo hi f tnil = []
 gather lo hi f (tcons t ts) = pick (leb lo (kind_in t)) (pick (leb (kind_in t) hi) (f t ∷ gather lo hi f ts) (gather lo hi f ts)) (gather lo hi f ts)
 
-abbrev pub treesOf {ℓ} : {A : Type ℓ} → (A → Tree) → List A → Trees → Trees
-treesOf f [] ts = ts
-treesOf f (a ∷ more) ts = tcons (f a) (treesOf f more ts)
+abbrev pub trees_of {ℓ} : {A : Type ℓ} → (A → Tree) → List A → Trees → Trees
+trees_of f [] ts = ts
+trees_of f (a ∷ more) ts = tcons (f a) (trees_of f more ts)
 
 -- NOTHING IS OVERLOOKED by a way of checking, reading and writing sheets: a sheet that passes is, byte for byte, the writing of what is read
 -- from it. `NothingOverlooked` of ContractSheet and `NothingOverlookedInPrograms` of ProgramSheet say so of the two sheets.

@@ -127,23 +127,23 @@ ends k = block k [] Terminator.Unreachable
 abbrev pub at_start : ℕ → State
 at_start k = in_block k [] Terminator.Unreachable [] [] []
 
--- the pick's way decides, and neither its word nor that of the condition, which is 50 here and 0 in `thenOfZero`
+-- the pick's way decides, and neither its word nor that of the condition, which is 50 here and 0 in `then_of_zero`
 abbrev pub enter_rows : List StateRow
 enter_rows =
-    jumps_to 7 (ends 1 ∷ ends 9 ∷ []) lacks ∷  -- jumpNowhere
-    jumps_to 65535 (ends 1 ∷ ends 65534 ∷ []) lacks ∷  -- jumpToAbsent
-    record { blocks = block 1 [] (Terminator.Jump 0) ∷ ends 2 ∷ []; params = []; words = []; picks = (70, then_way) ∷ []; state = lacks } ∷  -- jumpToZero
-    jumps_to 1 (open_block 1 [] ∷ ends 2 ∷ []) lacks ∷  -- jumpToOpen
-    jumps_to 2 (ends 1 ∷ ends 2 ∷ []) (at_start 2) ∷  -- jumpThere
-    branches_to 7 2 (0, then_way) (ends 2 ∷ ends 9 ∷ []) lacks ∷  -- thenNowhere
-    branches_to 7 2 (1, else_way) (ends 2 ∷ ends 9 ∷ []) (at_start 2) ∷  -- elseThere
-    branches_to 1 7 (0, then_way) (ends 1 ∷ ends 9 ∷ []) (at_start 1) ∷  -- thenThere
-    branches_to 1 7 (1, else_way) (ends 1 ∷ ends 9 ∷ []) lacks ∷  -- elseNowhere
-    branches_to 1 2 (0, then_way) (open_block 1 [] ∷ ends 2 ∷ []) lacks ∷  -- thenToOpen
-    branches_to 2 1 (1, else_way) (open_block 1 [] ∷ ends 2 ∷ []) lacks ∷  -- elseToOpen
-    branches_to 1 2 (1, then_way) (ends 1 ∷ ends 2 ∷ []) (at_start 1) ∷  -- thenWithOne
-    branches_to 1 2 (0, else_way) (ends 1 ∷ ends 2 ∷ []) (at_start 2) ∷  -- elseWithZero
-    record { blocks = block 0 [] (Terminator.Branch 5 1 2) ∷ ends 1 ∷ ends 2 ∷ []; params = five ∷ []; words = 0 ∷ []; picks = (0, then_way) ∷ []; state = at_start 1 } ∷ []  -- thenOfZero
+    jumps_to 7 (ends 1 ∷ ends 9 ∷ []) lacks ∷  -- jump_nowhere
+    jumps_to 65535 (ends 1 ∷ ends 65534 ∷ []) lacks ∷  -- jump_to_absent
+    record { blocks = block 1 [] (Terminator.Jump 0) ∷ ends 2 ∷ []; params = []; words = []; picks = (70, then_way) ∷ []; state = lacks } ∷  -- jump_to_zero
+    jumps_to 1 (open_block 1 [] ∷ ends 2 ∷ []) lacks ∷  -- jump_to_open
+    jumps_to 2 (ends 1 ∷ ends 2 ∷ []) (at_start 2) ∷  -- jump_there
+    branches_to 7 2 (0, then_way) (ends 2 ∷ ends 9 ∷ []) lacks ∷  -- then_nowhere
+    branches_to 7 2 (1, else_way) (ends 2 ∷ ends 9 ∷ []) (at_start 2) ∷  -- else_there
+    branches_to 1 7 (0, then_way) (ends 1 ∷ ends 9 ∷ []) (at_start 1) ∷  -- then_there
+    branches_to 1 7 (1, else_way) (ends 1 ∷ ends 9 ∷ []) lacks ∷  -- else_nowhere
+    branches_to 1 2 (0, then_way) (open_block 1 [] ∷ ends 2 ∷ []) lacks ∷  -- then_to_open
+    branches_to 2 1 (1, else_way) (open_block 1 [] ∷ ends 2 ∷ []) lacks ∷  -- else_to_open
+    branches_to 1 2 (1, then_way) (ends 1 ∷ ends 2 ∷ []) (at_start 1) ∷  -- then_with_one
+    branches_to 1 2 (0, else_way) (ends 1 ∷ ends 2 ∷ []) (at_start 2) ∷  -- else_with_zero
+    record { blocks = block 0 [] (Terminator.Branch 5 1 2) ∷ ends 1 ∷ ends 2 ∷ []; params = five ∷ []; words = 0 ∷ []; picks = (0, then_way) ∷ []; state = at_start 1 } ∷ []  -- then_of_zero
 
 -- ENTERING EMPTIES the held values; in the first listed block the parameters are then held. The locals written stay
 abbrev leaves_block : StateRow
@@ -254,66 +254,66 @@ passes is vs held written = lone is vs (in_block 0 is Terminator.Unreachable [] 
 abbrev pub operand_rows : List StateRow
 operand_rows =
     passes (gives 9 (Instruction.Const IrType.U64 1) ∷ []) [] ((9, 90) ∷ []) [] ∷  -- const
-    passes (gives 9 (add 1 2) ∷ []) (1 ∷ 2 ∷ []) ((9, 90) ∷ (1, 10) ∷ (2, 20) ∷ []) [] ∷  -- binaryBoth
-    stuck (gives 9 (add 1 2) ∷ []) (2 ∷ []) ∷  -- binaryFirst
+    passes (gives 9 (add 1 2) ∷ []) (1 ∷ 2 ∷ []) ((9, 90) ∷ (1, 10) ∷ (2, 20) ∷ []) [] ∷  -- binary_both
+    stuck (gives 9 (add 1 2) ∷ []) (2 ∷ []) ∷  -- binary_first
     stuck (gives 9 (add 1 2) ∷ []) (1 ∷ []) ∷  -- binary_second
-    passes (gives 9 (Instruction.Load IrType.U64 1 2) ∷ []) (1 ∷ []) ((9, 90) ∷ (1, 10) ∷ []) [] ∷  -- loadHeld
-    stuck (gives 9 (Instruction.Load IrType.U64 1 2) ∷ []) (2 ∷ []) ∷  -- loadBase
-    passes (does (Instruction.Store 1 2 3) ∷ []) (1 ∷ 3 ∷ []) ((1, 10) ∷ (3, 30) ∷ []) [] ∷  -- storeHeld
-    stuck (does (Instruction.Store 1 2 3) ∷ []) (2 ∷ 3 ∷ []) ∷  -- storeBase
-    stuck (does (Instruction.Store 1 2 3) ∷ []) (1 ∷ 2 ∷ []) ∷  -- storeValue
+    passes (gives 9 (Instruction.Load IrType.U64 1 2) ∷ []) (1 ∷ []) ((9, 90) ∷ (1, 10) ∷ []) [] ∷  -- load_held
+    stuck (gives 9 (Instruction.Load IrType.U64 1 2) ∷ []) (2 ∷ []) ∷  -- load_base
+    passes (does (Instruction.Store 1 2 3) ∷ []) (1 ∷ 3 ∷ []) ((1, 10) ∷ (3, 30) ∷ []) [] ∷  -- store_held
+    stuck (does (Instruction.Store 1 2 3) ∷ []) (2 ∷ 3 ∷ []) ∷  -- store_base
+    stuck (does (Instruction.Store 1 2 3) ∷ []) (1 ∷ 2 ∷ []) ∷  -- store_value
     passes (gives 9 (Instruction.StateRead IrType.U64 1) ∷ []) [] ((9, 90) ∷ []) [] ∷  -- state_read
-    passes (does (Instruction.StateWrite 1 2) ∷ []) (2 ∷ []) ((2, 20) ∷ []) [] ∷  -- stateWriteHeld
-    stuck (does (Instruction.StateWrite 1 2) ∷ []) (1 ∷ []) ∷  -- stateWriteValue
-    passes (does (Instruction.WriteLocal 1 2) ∷ []) (2 ∷ []) ((2, 20) ∷ []) (1 ∷ []) ∷  -- writesLocal
-    stuck (does (Instruction.WriteLocal 1 2) ∷ []) (1 ∷ []) ∷  -- writeLocalValue
-    passes (gives 9 (Instruction.Call 1 (2 ∷ 3 ∷ 4 ∷ []) IrType.U64) ∷ []) (2 ∷ 3 ∷ 4 ∷ []) ((9, 90) ∷ (2, 20) ∷ (3, 30) ∷ (4, 40) ∷ []) [] ∷  -- callAll
-    passes (gives 9 (Instruction.Call 1 [] IrType.U64) ∷ []) [] ((9, 90) ∷ []) [] ∷  -- callNothing
-    stuck (gives 9 (Instruction.Call 1 (2 ∷ 3 ∷ 4 ∷ []) IrType.U64) ∷ []) (1 ∷ 3 ∷ 4 ∷ []) ∷  -- callFirst
-    stuck (gives 9 (Instruction.Call 1 (2 ∷ 3 ∷ 4 ∷ []) IrType.U64) ∷ []) (1 ∷ 2 ∷ 4 ∷ []) ∷  -- callMiddle
-    stuck (gives 9 (Instruction.Call 1 (2 ∷ 3 ∷ 4 ∷ []) IrType.U64) ∷ []) (1 ∷ 2 ∷ 3 ∷ []) ∷  -- callLast
-    passes (does (Instruction.Assert 1) ∷ []) (1 ∷ []) ((1, 10) ∷ []) [] ∷  -- assertHeld
-    stuck (does (Instruction.Assert 1) ∷ []) (2 ∷ []) ∷  -- assertCondition
-    passes (gives 9 (Instruction.Poseidon 1 2) ∷ []) (1 ∷ 2 ∷ []) ((9, 90) ∷ (1, 10) ∷ (2, 20) ∷ []) [] ∷  -- poseidonBoth
-    stuck (gives 9 (Instruction.Poseidon 1 2) ∷ []) (2 ∷ []) ∷  -- poseidonFirst
-    stuck (gives 9 (Instruction.Poseidon 1 2) ∷ []) (1 ∷ []) ∷  -- poseidonSecond
-    passes (does (Instruction.Emit 1 (2 ∷ 3 ∷ 4 ∷ [])) ∷ []) (2 ∷ 3 ∷ 4 ∷ []) ((2, 20) ∷ (3, 30) ∷ (4, 40) ∷ []) [] ∷  -- emitAll
-    passes (does (Instruction.Emit 1 []) ∷ []) [] [] [] ∷  -- emitNothing
-    stuck (does (Instruction.Emit 1 (2 ∷ 3 ∷ 4 ∷ [])) ∷ []) (1 ∷ 3 ∷ 4 ∷ []) ∷  -- emitFirst
-    stuck (does (Instruction.Emit 1 (2 ∷ 3 ∷ 4 ∷ [])) ∷ []) (1 ∷ 2 ∷ 4 ∷ []) ∷  -- emitMiddle
-    stuck (does (Instruction.Emit 1 (2 ∷ 3 ∷ 4 ∷ [])) ∷ []) (1 ∷ 2 ∷ 3 ∷ []) ∷  -- emitLast
+    passes (does (Instruction.StateWrite 1 2) ∷ []) (2 ∷ []) ((2, 20) ∷ []) [] ∷  -- state_write_held
+    stuck (does (Instruction.StateWrite 1 2) ∷ []) (1 ∷ []) ∷  -- state_write_value
+    passes (does (Instruction.WriteLocal 1 2) ∷ []) (2 ∷ []) ((2, 20) ∷ []) (1 ∷ []) ∷  -- writes_local
+    stuck (does (Instruction.WriteLocal 1 2) ∷ []) (1 ∷ []) ∷  -- write_local_value
+    passes (gives 9 (Instruction.Call 1 (2 ∷ 3 ∷ 4 ∷ []) IrType.U64) ∷ []) (2 ∷ 3 ∷ 4 ∷ []) ((9, 90) ∷ (2, 20) ∷ (3, 30) ∷ (4, 40) ∷ []) [] ∷  -- call_all
+    passes (gives 9 (Instruction.Call 1 [] IrType.U64) ∷ []) [] ((9, 90) ∷ []) [] ∷  -- call_nothing
+    stuck (gives 9 (Instruction.Call 1 (2 ∷ 3 ∷ 4 ∷ []) IrType.U64) ∷ []) (1 ∷ 3 ∷ 4 ∷ []) ∷  -- call_first
+    stuck (gives 9 (Instruction.Call 1 (2 ∷ 3 ∷ 4 ∷ []) IrType.U64) ∷ []) (1 ∷ 2 ∷ 4 ∷ []) ∷  -- call_middle
+    stuck (gives 9 (Instruction.Call 1 (2 ∷ 3 ∷ 4 ∷ []) IrType.U64) ∷ []) (1 ∷ 2 ∷ 3 ∷ []) ∷  -- call_last
+    passes (does (Instruction.Assert 1) ∷ []) (1 ∷ []) ((1, 10) ∷ []) [] ∷  -- assert_held
+    stuck (does (Instruction.Assert 1) ∷ []) (2 ∷ []) ∷  -- assert_condition
+    passes (gives 9 (Instruction.Poseidon 1 2) ∷ []) (1 ∷ 2 ∷ []) ((9, 90) ∷ (1, 10) ∷ (2, 20) ∷ []) [] ∷  -- poseidon_both
+    stuck (gives 9 (Instruction.Poseidon 1 2) ∷ []) (2 ∷ []) ∷  -- poseidon_first
+    stuck (gives 9 (Instruction.Poseidon 1 2) ∷ []) (1 ∷ []) ∷  -- poseidon_second
+    passes (does (Instruction.Emit 1 (2 ∷ 3 ∷ 4 ∷ [])) ∷ []) (2 ∷ 3 ∷ 4 ∷ []) ((2, 20) ∷ (3, 30) ∷ (4, 40) ∷ []) [] ∷  -- emit_all
+    passes (does (Instruction.Emit 1 []) ∷ []) [] [] [] ∷  -- emit_nothing
+    stuck (does (Instruction.Emit 1 (2 ∷ 3 ∷ 4 ∷ [])) ∷ []) (1 ∷ 3 ∷ 4 ∷ []) ∷  -- emit_first
+    stuck (does (Instruction.Emit 1 (2 ∷ 3 ∷ 4 ∷ [])) ∷ []) (1 ∷ 2 ∷ 4 ∷ []) ∷  -- emit_middle
+    stuck (does (Instruction.Emit 1 (2 ∷ 3 ∷ 4 ∷ [])) ∷ []) (1 ∷ 2 ∷ 3 ∷ []) ∷  -- emit_last
     passes (gives 9 (Instruction.ContextRead 1) ∷ []) [] ((9, 90) ∷ []) [] ∷ []  -- context_read
 
 -- a local: read only once it is written, and it alone; a value of its number is another thing
 abbrev pub local_rows : List StateRow
 local_rows =
-    stuck (gives 9 (Instruction.ReadLocal 1 IrType.U64) ∷ []) (1 ∷ []) ∷  -- notWritten
-    stuck (gives 9 (Instruction.ReadLocal 0 IrType.U64) ∷ []) (0 ∷ 1 ∷ []) ∷  -- ofParameter
-    stuck (gives 9 (Instruction.ReadLocal 65535 IrType.U64) ∷ []) [] ∷  -- ofAbsent
-    passes (does (Instruction.WriteLocal 1 2) ∷ gives 9 (Instruction.ReadLocal 1 IrType.U64) ∷ []) (2 ∷ []) ((9, 91) ∷ (2, 20) ∷ []) (1 ∷ []) ∷  -- writtenBefore
-    stuck (does (Instruction.WriteLocal 2 2) ∷ gives 9 (Instruction.ReadLocal 1 IrType.U64) ∷ []) (2 ∷ []) ∷  -- nextWritten
-    stuck (does (Instruction.WriteLocal 0 2) ∷ gives 9 (Instruction.ReadLocal 1 IrType.U64) ∷ []) (2 ∷ []) ∷  -- lastWritten
-    stuck (gives 9 (Instruction.ReadLocal 1 IrType.U64) ∷ does (Instruction.WriteLocal 1 2) ∷ []) (2 ∷ []) ∷  -- writtenLater
-    passes (does (Instruction.WriteLocal 1 2) ∷ does (Instruction.WriteLocal 0 2) ∷ gives 9 (Instruction.ReadLocal 1 IrType.U64) ∷ []) (2 ∷ []) ((9, 92) ∷ (2, 20) ∷ []) (0 ∷ 1 ∷ []) ∷  -- writtenFirst
-    passes (does (Instruction.WriteLocal 1 2) ∷ does (Instruction.WriteLocal 0 2) ∷ gives 9 (Instruction.ReadLocal 0 IrType.U64) ∷ []) (2 ∷ []) ((9, 92) ∷ (2, 20) ∷ []) (0 ∷ 1 ∷ []) ∷  -- writtenSecond
-    passes (does (Instruction.WriteLocal 8 2) ∷ gives 9 (Instruction.ReadLocal 8 IrType.U64) ∷ []) (2 ∷ []) ((9, 91) ∷ (2, 20) ∷ []) (8 ∷ []) ∷ []  -- notDeclared
+    stuck (gives 9 (Instruction.ReadLocal 1 IrType.U64) ∷ []) (1 ∷ []) ∷  -- not_written
+    stuck (gives 9 (Instruction.ReadLocal 0 IrType.U64) ∷ []) (0 ∷ 1 ∷ []) ∷  -- of_parameter
+    stuck (gives 9 (Instruction.ReadLocal 65535 IrType.U64) ∷ []) [] ∷  -- of_absent
+    passes (does (Instruction.WriteLocal 1 2) ∷ gives 9 (Instruction.ReadLocal 1 IrType.U64) ∷ []) (2 ∷ []) ((9, 91) ∷ (2, 20) ∷ []) (1 ∷ []) ∷  -- written_before
+    stuck (does (Instruction.WriteLocal 2 2) ∷ gives 9 (Instruction.ReadLocal 1 IrType.U64) ∷ []) (2 ∷ []) ∷  -- next_written
+    stuck (does (Instruction.WriteLocal 0 2) ∷ gives 9 (Instruction.ReadLocal 1 IrType.U64) ∷ []) (2 ∷ []) ∷  -- last_written
+    stuck (gives 9 (Instruction.ReadLocal 1 IrType.U64) ∷ does (Instruction.WriteLocal 1 2) ∷ []) (2 ∷ []) ∷  -- written_later
+    passes (does (Instruction.WriteLocal 1 2) ∷ does (Instruction.WriteLocal 0 2) ∷ gives 9 (Instruction.ReadLocal 1 IrType.U64) ∷ []) (2 ∷ []) ((9, 92) ∷ (2, 20) ∷ []) (0 ∷ 1 ∷ []) ∷  -- written_first
+    passes (does (Instruction.WriteLocal 1 2) ∷ does (Instruction.WriteLocal 0 2) ∷ gives 9 (Instruction.ReadLocal 0 IrType.U64) ∷ []) (2 ∷ []) ((9, 92) ∷ (2, 20) ∷ []) (0 ∷ 1 ∷ []) ∷  -- written_second
+    passes (does (Instruction.WriteLocal 8 2) ∷ gives 9 (Instruction.ReadLocal 8 IrType.U64) ∷ []) (2 ∷ []) ((9, 91) ∷ (2, 20) ∷ []) (8 ∷ []) ∷ []  -- not_declared
 
 -- an instruction's result, if any, is held with the pick's word, once its operands were looked at; an Assert passes
 abbrev pub result_rows : List StateRow
 result_rows =
-    passes (gives 8 seven ∷ gives 9 seven ∷ []) [] ((9, 91) ∷ (8, 90) ∷ []) [] ∷  -- twoResults
-    passes (gives 8 seven ∷ gives 8 seven ∷ []) [] ((8, 91) ∷ (8, 90) ∷ []) [] ∷  -- resultAgain
-    passes (gives 1 seven ∷ []) (1 ∷ []) ((1, 90) ∷ (1, 10) ∷ []) [] ∷  -- resultOfParameter
+    passes (gives 8 seven ∷ gives 9 seven ∷ []) [] ((9, 91) ∷ (8, 90) ∷ []) [] ∷  -- two_results
+    passes (gives 8 seven ∷ gives 8 seven ∷ []) [] ((8, 91) ∷ (8, 90) ∷ []) [] ∷  -- result_again
+    passes (gives 1 seven ∷ []) (1 ∷ []) ((1, 90) ∷ (1, 10) ∷ []) [] ∷  -- result_of_parameter
     passes (does seven ∷ []) (1 ∷ []) ((1, 10) ∷ []) [] ∷  -- no_result
-    passes (gives 9 (Instruction.Assert 1) ∷ []) (1 ∷ []) ((9, 90) ∷ (1, 10) ∷ []) [] ∷  -- resultOfAssert
-    passes (gives 9 (Instruction.Call 1 [] IrType.Void) ∷ []) [] ((9, 90) ∷ []) [] ∷  -- resultOfVoid
-    record { blocks = block 0 (gives 9 (Instruction.Assert 5) ∷ []) Terminator.Unreachable ∷ []; params = five ∷ []; words = 0 ∷ []; picks = (0, else_way) ∷ []; state = in_block 0 (gives 9 (Instruction.Assert 5) ∷ []) Terminator.Unreachable [] ((9, 0) ∷ (5, 0) ∷ []) [] } ∷  -- assertOfZero
-    passes (gives 8 seven ∷ gives 9 (add 8 8) ∷ []) [] ((9, 91) ∷ (8, 90) ∷ []) [] ∷  -- resultRead
-    passes (gives 8 seven ∷ gives 9 seven ∷ does (Instruction.Assert 8) ∷ []) [] ((9, 91) ∷ (8, 90) ∷ []) [] ∷  -- olderResultRead
-    stuck (gives 9 (add 9 1) ∷ []) (1 ∷ []) ∷  -- readsOwnResult
-    stuck (gives 9 (add 0 1) ∷ []) (1 ∷ []) ∷  -- readsZero
-    stuck (gives 9 (add 65535 1) ∷ []) (1 ∷ []) ∷  -- readsAbsent
-    stuck (does (Instruction.Assert 9) ∷ gives 9 seven ∷ []) [] ∷ []  -- readBeforeMade
+    passes (gives 9 (Instruction.Assert 1) ∷ []) (1 ∷ []) ((9, 90) ∷ (1, 10) ∷ []) [] ∷  -- result_of_assert
+    passes (gives 9 (Instruction.Call 1 [] IrType.Void) ∷ []) [] ((9, 90) ∷ []) [] ∷  -- result_of_void
+    record { blocks = block 0 (gives 9 (Instruction.Assert 5) ∷ []) Terminator.Unreachable ∷ []; params = five ∷ []; words = 0 ∷ []; picks = (0, else_way) ∷ []; state = in_block 0 (gives 9 (Instruction.Assert 5) ∷ []) Terminator.Unreachable [] ((9, 0) ∷ (5, 0) ∷ []) [] } ∷  -- assert_of_zero
+    passes (gives 8 seven ∷ gives 9 (add 8 8) ∷ []) [] ((9, 91) ∷ (8, 90) ∷ []) [] ∷  -- result_read
+    passes (gives 8 seven ∷ gives 9 seven ∷ does (Instruction.Assert 8) ∷ []) [] ((9, 91) ∷ (8, 90) ∷ []) [] ∷  -- older_result_read
+    stuck (gives 9 (add 9 1) ∷ []) (1 ∷ []) ∷  -- reads_own_result
+    stuck (gives 9 (add 0 1) ∷ []) (1 ∷ []) ∷  -- reads_zero
+    stuck (gives 9 (add 65535 1) ∷ []) (1 ∷ []) ∷  -- reads_absent
+    stuck (does (Instruction.Assert 9) ∷ gives 9 seven ∷ []) [] ∷ []  -- read_before_made
 
 -- ---- WHAT A RUN LACKS, over blocks
 -- a value of a block that no run enters
@@ -410,16 +410,16 @@ terminated t ps s = record { blocks = block 0 [] t ∷ ends 1 ∷ []; params = f
 -- the last four: after an end or a lack, picks change nothing
 abbrev pub end_rows : List StateRow
 end_rows =
-    terminated (Terminator.Branch 1 1 1) ((70, then_way) ∷ []) lacks ∷  -- branchThenNotHeld
-    terminated (Terminator.Branch 1 1 1) ((70, else_way) ∷ []) lacks ∷  -- branchElseNotHeld
-    terminated (Terminator.Return (some 1)) ((70, then_way) ∷ []) lacks ∷  -- returnNotHeld
-    terminated (Terminator.Return (some 5)) ((70, then_way) ∷ []) ended ∷  -- returnHeld
-    terminated (Terminator.Return none) ((70, then_way) ∷ []) ended ∷  -- returnNothing
+    terminated (Terminator.Branch 1 1 1) ((70, then_way) ∷ []) lacks ∷  -- branch_then_not_held
+    terminated (Terminator.Branch 1 1 1) ((70, else_way) ∷ []) lacks ∷  -- branch_else_not_held
+    terminated (Terminator.Return (some 1)) ((70, then_way) ∷ []) lacks ∷  -- return_not_held
+    terminated (Terminator.Return (some 5)) ((70, then_way) ∷ []) ended ∷  -- return_held
+    terminated (Terminator.Return none) ((70, then_way) ∷ []) ended ∷  -- return_nothing
     terminated Terminator.Unreachable ((70, then_way) ∷ []) ended ∷  -- unreachable
-    terminated (Terminator.Return none) ((70, then_way) ∷ (71, else_way) ∷ (72, then_way) ∷ []) ended ∷  -- afterReturn
-    terminated Terminator.Unreachable ((70, then_way) ∷ (71, else_way) ∷ (72, then_way) ∷ []) ended ∷  -- afterUnreachable
+    terminated (Terminator.Return none) ((70, then_way) ∷ (71, else_way) ∷ (72, then_way) ∷ []) ended ∷  -- after_return
+    terminated Terminator.Unreachable ((70, then_way) ∷ (71, else_way) ∷ (72, then_way) ∷ []) ended ∷  -- after_unreachable
     terminated (Terminator.Return (some 1)) ((70, then_way) ∷ (71, else_way) ∷ (72, then_way) ∷ []) lacks ∷  -- after_lack
-    terminated (Terminator.Jump 7) ((70, then_way) ∷ (71, else_way) ∷ (72, then_way) ∷ []) lacks ∷ []  -- afterNoBlock
+    terminated (Terminator.Jump 7) ((70, then_way) ∷ (71, else_way) ∷ (72, then_way) ∷ []) lacks ∷ []  -- after_no_block
 
 -- ---- STEPS from a given state. A value of an earlier visit to the same block: a run that lacks for it in the second visit has lacked in the
 -- first, where it is not held either; so the second visit is begun in the middle, with the value held.
@@ -453,13 +453,13 @@ stays s picks = record { blocks = ends 0 ∷ []; params = []; words = []; from =
 
 abbrev pub steps_rows : List StepsRow
 steps_rows =
-    from_block1 [] ((71, then_way) ∷ (72, then_way) ∷ []) lacks ∷  -- ofEarlierVisit
-    from_block1 [] ((71, then_way) ∷ []) (in_block 1 reads_and_makes7 (Terminator.Branch 7 1 0) reads_and_makes7 [] (2 ∷ [])) ∷  -- entersAgain
-    from_block1 (does (Instruction.Assert 7) ∷ []) ((71, then_way) ∷ []) (in_block 1 reads_and_makes7 (Terminator.Branch 7 1 0) [] ((7, 70) ∷ []) (2 ∷ [])) ∷  -- ofThisVisit
-    from_block1 [] ((71, else_way) ∷ []) (in_block 0 [] Terminator.Unreachable [] ((5, 50) ∷ []) (2 ∷ [])) ∷  -- entersFirst
+    from_block1 [] ((71, then_way) ∷ (72, then_way) ∷ []) lacks ∷  -- of_earlier_visit
+    from_block1 [] ((71, then_way) ∷ []) (in_block 1 reads_and_makes7 (Terminator.Branch 7 1 0) reads_and_makes7 [] (2 ∷ [])) ∷  -- enters_again
+    from_block1 (does (Instruction.Assert 7) ∷ []) ((71, then_way) ∷ []) (in_block 1 reads_and_makes7 (Terminator.Branch 7 1 0) [] ((7, 70) ∷ []) (2 ∷ [])) ∷  -- of_this_visit
+    from_block1 [] ((71, else_way) ∷ []) (in_block 0 [] Terminator.Unreachable [] ((5, 50) ∷ []) (2 ∷ [])) ∷  -- enters_first
     stays (in_block 1 [] Terminator.Unreachable [] [] []) [] ∷  -- no_pick
-    stays ended ((71, then_way) ∷ (72, else_way) ∷ []) ∷  -- fromEnd
-    stays lacks ((71, then_way) ∷ (72, else_way) ∷ []) ∷ []  -- fromLack
+    stays ended ((71, then_way) ∷ (72, else_way) ∷ []) ∷  -- from_end
+    stays lacks ((71, then_way) ∷ (72, else_way) ∷ []) ∷ []  -- from_lack
 
 -- all rows, as one list, by what they show
 abbrev pub state_rows : List (List StateRow)

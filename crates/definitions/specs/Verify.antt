@@ -12,8 +12,8 @@ pub data VerifyError : Type 0 where
   UndefinedBlock : (block : ℕ) → VerifyError
   MissingTerminator : (block : ℕ) → VerifyError
   ReturnTypeMismatch : (expected : IrType) (got : Option IrType) → VerifyError
-  BranchConditionNotBool : (value : ℕ) (actualTy : IrType) → VerifyError
-  OperandTypeMismatch : (lhsTy rhsTy : IrType) → VerifyError
+  BranchConditionNotBool : (value : ℕ) (actual_ty : IrType) → VerifyError
+  OperandTypeMismatch : (lhs_ty rhs_ty : IrType) → VerifyError
   UndefinedLocal : (local : ℕ) → VerifyError
   UndefinedFunction : (function : ℕ) → VerifyError
   ResultOnNone : (kind : ℕ) → VerifyError
@@ -68,39 +68,39 @@ check_value_refs (v ∷ vs) ds = do
   check_value_refs vs ds
 
 abbrev pub check_block_ref : ℕ → List ℕ → Checked Done
-check_block_ref b validBlocks = check (contains b validBlocks) (VerifyError.UndefinedBlock b)
+check_block_ref b valid_blocks = check (contains b valid_blocks) (VerifyError.UndefinedBlock b)
 
 abbrev pub check_local_ref : ℕ → ℕ → Checked Done
 check_local_ref l local_count = check (ltb l local_count) (VerifyError.UndefinedLocal l)
 
 -- `verify_instr`
 unfoldable pub verify_instr : Instruction → Defined → List ℕ → ℕ → Checked Done
-verify_instr (Instruction.Const t v) ds validFids local_count = ok tt
-verify_instr (Instruction.Binary op t l r) ds validFids local_count = do
-  lhsTy ← check_value_ref l ds
-  rhsTy ← check_value_ref r ds
-  check (eq_type lhsTy t && eq_type rhsTy t) (VerifyError.OperandTypeMismatch lhsTy rhsTy)
-verify_instr (Instruction.Load t b o) ds validFids local_count = check_value_refs (b ∷ []) ds
-verify_instr (Instruction.Store b o v) ds validFids local_count = check_value_refs (b ∷ v ∷ []) ds
-verify_instr (Instruction.StateRead t s) ds validFids local_count = ok tt
-verify_instr (Instruction.StateWrite s v) ds validFids local_count = check_value_refs (v ∷ []) ds
-verify_instr (Instruction.ReadLocal l t) ds validFids local_count = check_local_ref l local_count
-verify_instr (Instruction.WriteLocal l v) ds validFids local_count = do
+verify_instr (Instruction.Const t v) ds valid_fids local_count = ok tt
+verify_instr (Instruction.Binary op t l r) ds valid_fids local_count = do
+  lhs_ty ← check_value_ref l ds
+  rhs_ty ← check_value_ref r ds
+  check (eq_type lhs_ty t && eq_type rhs_ty t) (VerifyError.OperandTypeMismatch lhs_ty rhs_ty)
+verify_instr (Instruction.Load t b o) ds valid_fids local_count = check_value_refs (b ∷ []) ds
+verify_instr (Instruction.Store b o v) ds valid_fids local_count = check_value_refs (b ∷ v ∷ []) ds
+verify_instr (Instruction.StateRead t s) ds valid_fids local_count = ok tt
+verify_instr (Instruction.StateWrite s v) ds valid_fids local_count = check_value_refs (v ∷ []) ds
+verify_instr (Instruction.ReadLocal l t) ds valid_fids local_count = check_local_ref l local_count
+verify_instr (Instruction.WriteLocal l v) ds valid_fids local_count = do
   check_local_ref l local_count
   check_value_refs (v ∷ []) ds
-verify_instr (Instruction.Call f a t) ds validFids local_count = do
-  check (contains f validFids) (VerifyError.UndefinedFunction f)
+verify_instr (Instruction.Call f a t) ds valid_fids local_count = do
+  check (contains f valid_fids) (VerifyError.UndefinedFunction f)
   check_value_refs a ds
-verify_instr (Instruction.Assert c) ds validFids local_count = check_value_refs (c ∷ []) ds
-verify_instr (Instruction.Poseidon l r) ds validFids local_count = check_value_refs (l ∷ r ∷ []) ds
-verify_instr (Instruction.Emit e a) ds validFids local_count = check_value_refs a ds
-verify_instr (Instruction.ContextRead k) ds validFids local_count = ok tt
+verify_instr (Instruction.Assert c) ds valid_fids local_count = check_value_refs (c ∷ []) ds
+verify_instr (Instruction.Poseidon l r) ds valid_fids local_count = check_value_refs (l ∷ r ∷ []) ds
+verify_instr (Instruction.Emit e a) ds valid_fids local_count = check_value_refs a ds
+verify_instr (Instruction.ContextRead k) ds valid_fids local_count = ok tt
 
 unfoldable pub verify_instrs : List InstrNode → Defined → List ℕ → ℕ → Checked Done
-verify_instrs [] ds validFids local_count = ok tt
-verify_instrs (n ∷ ns) ds validFids local_count = do
-  verify_instr n.instr ds validFids local_count
-  verify_instrs ns ds validFids local_count
+verify_instrs [] ds valid_fids local_count = ok tt
+verify_instrs (n ∷ ns) ds valid_fids local_count = do
+  verify_instr n.instr ds valid_fids local_count
+  verify_instrs ns ds valid_fids local_count
 
 -- the return types that fit: none for Void, and otherwise the same
 abbrev pub return_matches : IrType → Option IrType → Bool
@@ -114,49 +114,49 @@ returned_type (some v) ds = do
   ok (some t)
 
 unfoldable pub verify_terminator : Terminator → IrType → Defined → List ℕ → Checked Done
-verify_terminator (Terminator.Jump b) ret_ty ds validBlocks = check_block_ref b validBlocks
-verify_terminator (Terminator.Branch v b e) ret_ty ds validBlocks = do
-  condTy ← check_value_ref v ds
-  check (eq_type condTy IrType.BoolT) (VerifyError.BranchConditionNotBool v condTy)
-  check_block_ref b validBlocks
-  check_block_ref e validBlocks
-verify_terminator (Terminator.Return v) ret_ty ds validBlocks = do
-  gotTy ← returned_type v ds
-  check (return_matches ret_ty gotTy) (VerifyError.ReturnTypeMismatch ret_ty gotTy)
-verify_terminator Terminator.Unreachable ret_ty ds validBlocks = ok tt
+verify_terminator (Terminator.Jump b) ret_ty ds valid_blocks = check_block_ref b valid_blocks
+verify_terminator (Terminator.Branch v b e) ret_ty ds valid_blocks = do
+  cond_ty ← check_value_ref v ds
+  check (eq_type cond_ty IrType.BoolT) (VerifyError.BranchConditionNotBool v cond_ty)
+  check_block_ref b valid_blocks
+  check_block_ref e valid_blocks
+verify_terminator (Terminator.Return v) ret_ty ds valid_blocks = do
+  got_ty ← returned_type v ds
+  check (return_matches ret_ty got_ty) (VerifyError.ReturnTypeMismatch ret_ty got_ty)
+verify_terminator Terminator.Unreachable ret_ty ds valid_blocks = ok tt
 
 abbrev pub block_ids : List BasicBlock → List ℕ
 block_ids bs = map (λ (b : BasicBlock). b.id) bs
 
 -- `verify_block`
 unfoldable pub verify_block : BasicBlock → IrFunction → Defined → List ℕ → Checked Done
-verify_block b f ds validFids = do
-  verify_instrs b.instrs ds validFids (length f.locals)
+verify_block b f ds valid_fids = do
+  verify_instrs b.instrs ds valid_fids (length f.locals)
   t ← ok_or_else b.terminator (VerifyError.MissingTerminator b.id)
   verify_terminator t f.ret_ty ds (block_ids f.blocks)
 
 unfoldable pub verify_blocks : List BasicBlock → IrFunction → Defined → List ℕ → Checked Done
-verify_blocks [] f ds validFids = ok tt
-verify_blocks (b ∷ bs) f ds validFids = do
-  verify_block b f ds validFids
-  verify_blocks bs f ds validFids
+verify_blocks [] f ds valid_fids = ok tt
+verify_blocks (b ∷ bs) f ds valid_fids = do
+  verify_block b f ds valid_fids
+  verify_blocks bs f ds valid_fids
 
 -- `verify_function`
 unfoldable pub verify_function : IrFunction → List ℕ → Checked Done
-verify_function f validFids = do
+verify_function f valid_fids = do
   ds ← define_params f.params []
   ds ← define_blocks f.blocks ds
-  verify_blocks f.blocks f ds validFids
+  verify_blocks f.blocks f ds valid_fids
 
 -- `verify_program`: an error with the name of its function (`in_function`)
 abbrev pub function_ids : List IrFunction → List ℕ
 function_ids fs = map (λ (f : IrFunction). f.id) fs
 
 unfoldable pub verify_functions : List IrFunction → List ℕ → Result (ℕ × VerifyError) Done
-verify_functions [] validFids = ok tt
-verify_functions (f ∷ fs) validFids = do
-  map_err (λ (x : VerifyError). (f.name, x)) (verify_function f validFids)
-  verify_functions fs validFids
+verify_functions [] valid_fids = ok tt
+verify_functions (f ∷ fs) valid_fids = do
+  map_err (λ (x : VerifyError). (f.name, x)) (verify_function f valid_fids)
+  verify_functions fs valid_fids
 
 unfoldable pub verify_program : IrProgram → Result (ℕ × VerifyError) Done
 verify_program p = verify_functions p.functions (function_ids p.functions)

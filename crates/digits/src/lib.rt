@@ -7,7 +7,7 @@ ghost use Rattle.digits.specs.Digits.{DigitsPut};
 use itoa::Buffer;
 
 // The most digits of a number of 64 bits.
-pub const MOST: usize = 20;
+pub const MOST_DIGITS: usize = 20;
 
 // Puts the last `most` digits of v at a place of `out`, and gives the place behind them. What stands from there on is left as it is.
 pub fn put_digits(out: &mut [u8], at: usize, most: usize, v: usize) -> usize

@@ -2,8 +2,8 @@
 use Rattle.std.specs.Prelude.{ℕ, ◌≡◌, Result}
 use Rattle.std.specs.Result.{MatchResult}
 use Rattle.format.specs.declared.kinds.UnknownKind.{UnknownKind}
-use Rattle.format.specs.declared.kinds.Item.{Item}
-use Rattle.format.specs.declared.kinds.Item.TheVariants as item
+use Rattle.format.specs.declared.kinds.Declaration.{Declaration}
+use Rattle.format.specs.declared.kinds.Declaration.TheVariants as declaration
 use Rattle.format.specs.declared.kinds.Stmt.{Stmt}
 use Rattle.format.specs.declared.kinds.Stmt.TheVariants as stmt
 use Rattle.format.specs.declared.kinds.Expr.{Expr}
@@ -13,14 +13,14 @@ use Rattle.format.specs.declared.kinds.Instruction.TheVariants as instr
 use Rattle.format.specs.declared.kinds.Terminator.{Terminator}
 use Rattle.format.specs.declared.kinds.Terminator.TheVariants as term
 use Rattle.format.specs.declared.kinds.InBlock.{InBlock}
-use Rattle.format.specs.declared.kinds.InBlock.TheVariants as inBlock
+use Rattle.format.specs.declared.kinds.InBlock.TheVariants as in_block
 use Rattle.format.specs.declared.kinds.Kind.{Kind}
 use Rattle.format.specs.declared.kinds.Kind.TheVariants as kind
 
-abbrev pub item_number : Item → ℕ
-item_number item.Storage = 2
-item_number item.Struct = 3
-item_number item.Function = 4
+abbrev pub declaration_number : Declaration → ℕ
+declaration_number declaration.Storage = 2
+declaration_number declaration.Struct = 3
+declaration_number declaration.Function = 4
 
 abbrev pub stmt_number : Stmt → ℕ
 stmt_number stmt.Let = 10
@@ -51,8 +51,8 @@ instr_number instr.Add = 61
 instr_number instr.Sub = 62
 instr_number instr.Mul = 63
 instr_number instr.Div = 64
-instr_number instr.Eq = 65
-instr_number instr.Ne = 66
+instr_number instr.IrEq = 65
+instr_number instr.IrNe = 66
 instr_number instr.Lt = 67
 instr_number instr.Le = 68
 instr_number instr.Gt = 69
@@ -76,12 +76,12 @@ term_number term.Return = 92
 term_number term.Unreachable = 93
 
 abbrev pub in_block_number : InBlock → ℕ
-in_block_number (inBlock.Instruction i) = instr_number i
-in_block_number (inBlock.Terminator t) = term_number t
+in_block_number (in_block.Instruction i) = instr_number i
+in_block_number (in_block.Terminator t) = term_number t
 
 abbrev pub kind_number : Kind → ℕ
 kind_number kind.Contract = 1
-kind_number (kind.Item i) = item_number i
+kind_number (kind.Declaration d) = declaration_number d
 kind_number kind.Block = 5
 kind_number kind.FieldInit = 6
 kind_number (kind.Stmt s) = stmt_number s
@@ -96,8 +96,8 @@ kind_number (kind.InBlock b) = in_block_number b
 abbrev pub ReadsNumber : {K : Type 0} → (K → ℕ) → ℕ → Result K UnknownKind → Type 0
 ReadsNumber {K = K} number n r = MatchResult r (λ k. number k ≡ n) (λ _. (k : K) → number k ≡ n → ⊥)
 
-abbrev pub IsItem : ℕ → Result Item UnknownKind → Type 0
-IsItem = ReadsNumber item_number
+abbrev pub IsDeclaration : ℕ → Result Declaration UnknownKind → Type 0
+IsDeclaration = ReadsNumber declaration_number
 
 abbrev pub IsStmt : ℕ → Result Stmt UnknownKind → Type 0
 IsStmt = ReadsNumber stmt_number

@@ -1,4 +1,5 @@
-// Record kinds: of both sheets' records what the Rust has as enums, with the numbers that stand for them.
+// Record kinds: of both sheets' records what the Rust has as enums, with the numbers that stand for them. Each number stands once more in
+// `TryFrom`, since a pattern takes no cast; the promise of each `TryFrom` compares the two.
 ghost use Rattle.std.specs.Prelude.{◌≡◌};
 ghost use Rattle.format.specs.Kinds as numbers;
 
@@ -11,22 +12,22 @@ pub struct UnknownKind(pub u16);
 
 // What a contract consists of, in this order.
 #[derive(Clone, Copy, Debug, PartialEq, Eq)]
-pub enum Item {
+pub enum Declaration {
     Storage = 2,
     Struct = 3,
     Function = 4,
 }
 
-impl TryFrom<u16> for Item {
+impl TryFrom<u16> for Declaration {
     type Error = UnknownKind;
 
-    ghost try_from_gives = { numbers.IsItem };
+    ghost try_from_gives = { numbers.IsDeclaration };
 
     fn try_from(number: u16) -> Result<Self, UnknownKind> {
         match number {
-            2 => Ok(Item::Storage),
-            3 => Ok(Item::Struct),
-            4 => Ok(Item::Function),
+            2 => Ok(Declaration::Storage),
+            3 => Ok(Declaration::Struct),
+            4 => Ok(Declaration::Function),
             _ => Err(UnknownKind(number)),
         }
     }
@@ -112,8 +113,8 @@ pub enum Instruction {
     Sub = 62,
     Mul = 63,
     Div = 64,
-    Eq = 65,
-    Ne = 66,
+    IrEq = 65,
+    IrNe = 66,
     Lt = 67,
     Le = 68,
     Gt = 69,
@@ -143,8 +144,8 @@ impl TryFrom<u16> for Instruction {
             62 => Ok(Instruction::Sub),
             63 => Ok(Instruction::Mul),
             64 => Ok(Instruction::Div),
-            65 => Ok(Instruction::Eq),
-            66 => Ok(Instruction::Ne),
+            65 => Ok(Instruction::IrEq),
+            66 => Ok(Instruction::IrNe),
             67 => Ok(Instruction::Lt),
             68 => Ok(Instruction::Le),
             69 => Ok(Instruction::Gt),
@@ -203,7 +204,7 @@ impl TryFrom<u16> for InBlock {
     ghost try_from_gives = { numbers.IsInBlock };
 
     fn try_from(number: u16) -> Result<Self, UnknownKind> {
-        if number < 90 {
+        if number < Terminator::Jump as u16 {
             return Ok(InBlock::Instruction(Instruction::try_from(number)?));
         }
         Ok(InBlock::Terminator(Terminator::try_from(number)?))
@@ -214,7 +215,7 @@ impl TryFrom<u16> for InBlock {
 #[derive(Clone, Copy, Debug, PartialEq, Eq)]
 pub enum Kind {
     Contract,
-    Item(Item),
+    Declaration(Declaration),
     Block,
     FieldInit,
     Stmt(Stmt),
@@ -231,12 +232,12 @@ impl TryFrom<u16> for Kind {
 
     ghost try_from_gives = { numbers.IsKind };
 
-    // Inlined: the form of a sheet asks it for each record (`sheet::tables`).
+    // Inlined: the form of a sheet asks it for each record (`sheet_rows::tables`).
     #[inline(always)]
     fn try_from(number: u16) -> Result<Self, UnknownKind> {
         Ok(match number {
             1 => Kind::Contract,
-            2..=4 => Kind::Item(Item::try_from(number)?),
+            2..=4 => Kind::Declaration(Declaration::try_from(number)?),
             5 => Kind::Block,
             6 => Kind::FieldInit,
             10..=20 => Kind::Stmt(Stmt::try_from(number)?),
@@ -256,7 +257,7 @@ impl From<Kind> for u16 {
     fn from(kind: Kind) -> u16 {
         match kind {
             Kind::Contract => 1,
-            Kind::Item(item) => item as u16,
+            Kind::Declaration(declaration) => declaration as u16,
             Kind::Block => 5,
             Kind::FieldInit => 6,
             Kind::Stmt(stmt) => stmt as u16,

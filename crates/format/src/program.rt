@@ -2,7 +2,7 @@
 ghost use Rattle.format.specs.Contexts as numbers;
 
 use crate::kinds::UnknownKind;
-use crate::{COUNT, HEAD, ID, TYPE};
+use crate::{COUNT, HEAD, ID, SLOT, TYPE, WORD};
 
 // The program: its functions, then their names.
 pub const FUNCTIONS: usize = HEAD;
@@ -43,7 +43,8 @@ pub const RESULT: usize = FIELDS;
 
 pub const OWN: usize = FIELDS + ID;
 
-// Its type, if it has one: first of its own fields, or behind an id (ReadLocal, Call).
+// Its type, if it has one: first of its own fields, or behind an id (ReadLocal, Call). These two serve where the kind is not known, the names of each
+// kind below where it is.
 pub const TYPE_FIRST: usize = OWN;
 
 pub const TYPE_SECOND: usize = OWN + ID;
@@ -68,7 +69,7 @@ pub const STORE_BASE: usize = OWN;
 
 pub const STORE_OFFSET: usize = OWN + ID;
 
-pub const STORED: usize = STORE_OFFSET + 8;
+pub const STORED: usize = STORE_OFFSET + WORD;
 
 pub const STATE_READ_TYPE: usize = OWN;
 
@@ -76,15 +77,15 @@ pub const STATE_READ_SLOT: usize = OWN + TYPE;
 
 pub const STATE_WRITE_SLOT: usize = OWN;
 
-pub const STATE_WRITTEN: usize = OWN + 4;
+pub const STATE_WRITTEN: usize = OWN + SLOT;
 
 pub const READ_LOCAL: usize = OWN;
 
 pub const READ_LOCAL_TYPE: usize = OWN + ID;
 
-pub const WRITTEN_LOCAL: usize = OWN;
+pub const WRITE_LOCAL: usize = OWN;
 
-pub const LOCAL_WRITTEN: usize = OWN + ID;
+pub const WRITE_LOCAL_VALUE: usize = OWN + ID;
 
 pub const CALLEE: usize = OWN;
 

@@ -13,7 +13,11 @@ as_type Field = defs.IrType.FieldT
 as_type (Struct n) = defs.IrType.Struct n.0
 as_type Void = defs.IrType.Void
 
--- r is the number of the four bytes of a type: its tag, then its name
+-- a type as the number of its four bytes: its tag, then its name
+abbrev pub type_code : defs.IrType → ℕ
+type_code t = defs.tag_of t + 65536 * defs.name_of t
+
+-- r is the number of a type, and its bytes are those that the definitions write
 abbrev pub Coded : IrType → ℕ → Type 0
 Coded t r =
-    (r ≡ defs.tag_of (as_type t) + 65536 * defs.name_of (as_type t)) × (bytes 4 r ≡ write_type (as_type t)) × (defs.tag_of (as_type t) < 65536) × (defs.name_of (as_type t) < 65536)
+    (r ≡ type_code (as_type t)) × (bytes 4 r ≡ write_type (as_type t)) × (defs.tag_of (as_type t) < 65536) × (defs.name_of (as_type t) < 65536)

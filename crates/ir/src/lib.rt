@@ -11,8 +11,8 @@ ghost use Rattle.definitions.specs.InstrTable.{kind_row};
 ghost use Rattle.format.specs.Kinds.{instr_number};
 ghost use Rattle.ir.specs.Kinds.{rule_of, effect_of, rule_in, effect_in};
 
-use format::ABSENT;
 use format::kinds::Instruction;
+use format::{ABSENT, HIGH_HALF};
 
 // A name. Equal numbers stand for equal strings.
 #[derive(Clone, Copy, Debug, Default, PartialEq, Eq)]
@@ -89,20 +89,18 @@ pub enum IrType {
     Void,
 }
 
-// A type's code is the number of its four bytes on a program sheet: its tag, and PER_NAME times its name. Only a struct's type has a name.
-pub const PER_NAME: usize = 65536;
+// A type's code is the number of its four bytes on a program sheet: its tag, and HIGH_HALF times its name. Only a struct's type has a name.
+pub const U64_TAG: usize = 0;
 
-pub const U64_CODE: usize = 0;
+pub const BOOL_TAG: usize = 1;
 
-pub const BOOL_CODE: usize = 1;
+pub const FIELD_TAG: usize = 2;
 
-pub const FIELD_CODE: usize = 2;
+pub const STRUCT_TAG: usize = 3;
 
-pub const STRUCT_CODE: usize = 3;
+pub const VOID_TAG: usize = 4;
 
-pub const VOID_CODE: usize = 4;
-
-// What stands in place of a code where there is no type, in the numbers of a refusal: the C interface and the printed lines have numbers alone.
+// What stands in place of a tag where there is no type, in the numbers of a refusal: the C interface and the printed lines have numbers alone.
 pub const NO_TYPE: usize = ABSENT as usize;
 
 impl IrType {
@@ -112,10 +110,10 @@ impl IrType {
         ensures { as_type result ≡ type_from tag name }
     {
         match tag as usize {
-            U64_CODE => IrType::U64,
-            BOOL_CODE => IrType::Bool,
-            FIELD_CODE => IrType::Field,
-            STRUCT_CODE => IrType::Struct(Name::new(name)),
+            U64_TAG => IrType::U64,
+            BOOL_TAG => IrType::Bool,
+            FIELD_TAG => IrType::Field,
+            STRUCT_TAG => IrType::Struct(Name::new(name)),
             _ => IrType::Void,
         }
     }
@@ -125,11 +123,11 @@ impl IrType {
         ensures { (result.0 ≡ tag_of (as_type self)) × (result.1 ≡ name_of (as_type self)) }
     {
         match self {
-            IrType::U64 => (U64_CODE as u16, 0),
-            IrType::Bool => (BOOL_CODE as u16, 0),
-            IrType::Field => (FIELD_CODE as u16, 0),
-            IrType::Struct(name) => (STRUCT_CODE as u16, name.0),
-            IrType::Void => (VOID_CODE as u16, 0),
+            IrType::U64 => (U64_TAG as u16, 0),
+            IrType::Bool => (BOOL_TAG as u16, 0),
+            IrType::Field => (FIELD_TAG as u16, 0),
+            IrType::Struct(name) => (STRUCT_TAG as u16, name.0),
+            IrType::Void => (VOID_TAG as u16, 0),
         }
     }
 }
@@ -140,7 +138,7 @@ impl From<IrType> for u32 {
 
     fn from(ty: IrType) -> u32 {
         let (tag, name) = ty.parts();
-        (tag as usize + PER_NAME * (name as usize)) as u32
+        (tag as usize + HIGH_HALF * (name as usize)) as u32
     }
 }
 
@@ -150,8 +148,8 @@ impl From<usize> for IrType {
 
     fn from(code: usize) -> IrType {
         IrType::from_parts(
-            (code % PER_NAME) as u16,
-            (code / PER_NAME % PER_NAME) as u16,
+            (code % HIGH_HALF) as u16,
+            (code / HIGH_HALF % HIGH_HALF) as u16,
         )
     }
 }

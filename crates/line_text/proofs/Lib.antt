@@ -1,3 +1,5 @@
 mod Spaced
 pub mod Zeros
 mod Hexed
+pub mod Cut
+mod Examples

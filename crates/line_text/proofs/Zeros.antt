@@ -11,4 +11,4 @@ filled line m out r n front long h zeros =
     let size : length line ≡ r = sym (ap length front) ∙ length-take-le r m (omega arith) in
     let is : out ≡ padded n line = zeros ∙ rw (← long, ← size) (then_zeros line m (omega arith) (rw size front)) in
     let whole : length out ≡ n = ap length is ∙ padded_length n line in
-    record { is = is; size = sym size; inside = (omega arith, sym (length-take-le r out (omega arith))); same_length = whole }
+    record { is = is; size = sym size; prefix = (omega arith, sym (length-take-le r out (omega arith))); same_length = whole }

@@ -8,9 +8,13 @@ pub record Begins (line before after : List ℕ) (r : ℕ) : Type 0 where
   pub same_length : length after ≡ length before
   pub short : r ≤ 128
 
--- zeros stand behind the line in a text of n bytes
+-- `&text[..r]` is in bounds and has r bytes. The second part follows from the first, and spares a caller an answer, as in `IsPrefixLen` of the kit's io.
+abbrev pub Prefix : ℕ → List ℕ → Type 0
+Prefix r text = (r ≤ length text) × (r ≡ length (take r text))
+
+-- a text of n bytes is the line with zeros behind it, and r is how many bytes the line has
 pub record Lined (n : ℕ) (line text : List ℕ) (r : ℕ) : Type 0 where
   pub is : text ≡ padded n line
   pub size : r ≡ length line
-  pub inside : (r ≤ length text) × (r ≡ length (take r text))
+  pub prefix : Prefix r text
   pub same_length : length text ≡ n

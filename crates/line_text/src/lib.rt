@@ -3,8 +3,9 @@
 
 ghost use Rattle.std.specs.Prelude.{◌≡◌, ◌+◌, ◌*◌, ◌≤◌, ◌<◌, length};
 ghost use Rattle.definitions.specs.Result.{ok};
+ghost use Rattle.definitions.specs.Answers.{padded};
 ghost use Rattle.definitions.specs.Lines.{hex_digit, hexed, line_of, lowered_line};
-ghost use Rattle.line_text.specs.Lined.{Begins, Lined};
+ghost use Rattle.line_text.specs.Lined.{Begins, Lined, Prefix};
 
 use digits::put_digits;
 use numbers::Numbers;
@@ -14,32 +15,44 @@ const SPACE: u8 = b' ';
 
 const LINE_FEED: u8 = b'\n';
 
-// Puts the line of the numbers at the start of `out`: in decimal, separated by single spaces, or `OK` if there are none. Gives the line's length.
-fn put_numbers(numbers: &[usize], out: &mut [u8]) -> usize
-    requires { (length numbers.now ≤ 6) × (128 ≤ length out.old) }
-    ensures { Begins (line_of numbers.now) out.old out.new result }
+// The bytes that a line of numbers is put into, 126 of which six numbers can take.
+pub const LINE: usize = 128;
+
+// Puts the line of the numbers at the start of `text`: in decimal, separated by single spaces, or `OK` if there are none. Gives the line's length.
+fn put_numbers(numbers: &[usize], text: &mut [u8]) -> usize
+    requires { (length numbers.now ≤ 6) × (128 ≤ length text.old) }
+    ensures { Begins (line_of numbers.now) text.old text.new result }
 {
     let Some((first, details)) = numbers.split_first() else {
-        out[..3].copy_from_slice(b"OK\n");
+        text[..3].copy_from_slice(b"OK\n");
         return 3;
     };
-    let mut at = put_digits(out, 0, digits::MOST, *first);
+    let mut at = put_digits(text, 0, digits::MOST_DIGITS, *first);
     for detail in details {
-        out[at] = SPACE;
-        at = put_digits(out, at + 1, digits::MOST, *detail);
+        text[at] = SPACE;
+        at = put_digits(text, at + 1, digits::MOST_DIGITS, *detail);
     }
-    out[at] = LINE_FEED;
+    text[at] = LINE_FEED;
     at + 1
 }
 
 // The same, with zeros behind it.
-pub fn put_line(numbers: &Numbers, out: &mut [u8]) -> usize
-    requires { 128 ≤ length out.old }
-    ensures { Lined (length out.old) (line_of numbers.now) out.new result }
+pub fn put_line(numbers: &Numbers, text: &mut [u8]) -> usize
+    requires { 128 ≤ length text.old }
+    ensures { Lined (length text.old) (line_of numbers.now) text.new result }
 {
-    let end = put_numbers(numbers.as_slice(), out);
-    clear(out, end);
+    let end = put_numbers(numbers.as_slice(), text);
+    clear(text, end);
     end
+}
+
+// Puts the line of the numbers into `text`, with zeros behind it, and gives its length. It is `OK` if there are none.
+pub fn line(numbers: &Numbers, text: &mut [u8; LINE]) -> usize
+    ensures text_after { text.new ≡ padded 128 (line_of numbers.now) }
+    ensures len { result ≡ length (line_of numbers.now) }
+    ensures prefix { Prefix result text.new }
+{
+    put_line(numbers, text)
 }
 
 // A hexadecimal digit. `hex` prints into a slice only the small letters.

@@ -1,6 +1,7 @@
 -- From the parts to the answer: the program's record, the sheet's checks, the output with its zeros, and demand 3. Assumes nothing.
 use Rattle.std.specs.Prelude as code
 use Rattle.std.specs.Prelude.{None, Some}
+use Rattle.std.specs.Result.{result_unwrap_or}
 use mathlib.Core.Path.{◌≡◌, refl, sym, ap, ◌∙◌, subst}
 use mathlib.Core.List.{List, [], ◌++◌}
 use Prim.Native.Nat.{ℕ, ◌-◌, ◌≤◌}
@@ -8,11 +9,11 @@ use native.Mathlib.Omega.{arith}
 use lib.ListN.{length, take, replicate}
 use lib.Seq.{sets}
 use Rattle.definitions.specs.Fields.{Bytes}
-use Rattle.definitions.specs.Result.{err, ok}
+use Rattle.definitions.specs.Result.{Result, err, ok}
 use Rattle.definitions.specs.Ast.{Contract}
 use Rattle.definitions.specs.Ir.{IrFunction}
 use Rattle.definitions.specs.Lower.{lower_functions, lower_contract, function_names}
-use Rattle.definitions.specs.Records.{tnil, treesOf, write_record, write_tree, write_trees, write_values}
+use Rattle.definitions.specs.Records.{tnil, trees_of, write_record, write_tree, write_trees, write_values}
 use Rattle.definitions.specs.ProgramSheet.{ir_function_tree, function_name_tree, write_program}
 use Rattle.definitions.specs.ContractSheet.{read_contract}
 use Rattle.definitions.specs.Answers as answers
@@ -25,7 +26,7 @@ use Rattle.lower_walk.proofs.Trees.{trees_front}
 use Rattle.lower_layout.specs.Laid.{Laid}
 use Rattle.lower_layout.proofs.Storing.{laid_then, laid_lost}
 use Rattle.lower_name_table.specs.NameTable.{names_of}
-use Rattle.lower.specs.Whole.{program_head, FunctionsPlaced, program_answer, AnsweredWith, answer_of, lower_rest, written_by}
+use Rattle.lower.specs.Whole.{program_head, FunctionsPlaced, program_answer, AnsweredWith, answer_of, lower_rest}
 use Rattle.lower.specs.declared.refusal.Refusal as lowering
 use Rattle.lower.specs.declared.refusal.Refusal.TheVariants as lower_refused
 use Rattle.writer.proofs.Stores.{then_zeros}
@@ -33,11 +34,11 @@ use Rattle.lower.proofs.Fill.{refused_31, accepted}
 
 -- THE PROGRAM'S RECORD
 abbrev body_of : List IrFunction → List (ℕ × ℕ) → List ℕ
-body_of gs names = write_trees (treesOf ir_function_tree gs tnil) ++ write_trees (treesOf function_name_tree names tnil)
+body_of gs names = write_trees (trees_of ir_function_tree gs tnil) ++ write_trees (trees_of function_name_tree names tnil)
 
 program_is : (gs : List IrFunction) (names : List (ℕ × ℕ)) → write_program (record { functions = gs; function_names = names }) ≡ write_record 50 (body_of gs names)
 unfolding write_program write_tree write_values
-program_is gs names = ap (write_record 50) (trees_front ir_function_tree gs (treesOf function_name_tree names tnil))
+program_is gs names = ap (write_record 50) (trees_front ir_function_tree gs (trees_of function_name_tree names tnil))
 
 module _ (K : Contract) where
   -- the functions and the names are laid down, or something did not fit
@@ -46,14 +47,14 @@ module _ (K : Contract) where
     lowered : lower_functions K 0 K.functions ≡ ok gs
     laid : Laid (body_of gs (function_names 0 K.functions [])) before 6 after r
 
-  rest_is : (n : ℕ) (gs : List IrFunction) → lower_functions K 0 K.functions ≡ ok gs → lower_rest K n ≡ program_answer (body_of gs (function_names 0 K.functions [])) n
+  rest_is : (n : ℕ) (gs : List IrFunction) → lower_functions K 0 K.functions ≡ ok gs → lower_rest K n ≡ program_answer (write_record 50 (body_of gs (function_names 0 K.functions []))) n
   unfolding lower_rest lower_contract
   rest_is n gs e = rw (e, program_is gs (function_names 0 K.functions []))
 
   abbrev Answered : (before out : List ℕ) → code.Result ℕ lowering.Refusal → Type 0
   Answered before out r = AnsweredWith (lower_rest K (length before)) (length before) out r
 
-  answered : {before after out : List ℕ} {to : code.Option ℕ} {r : code.Result ℕ lowering.Refusal} (B : Body before after to) → AnsweredWith (program_answer (body_of B.gs (function_names 0 K.functions [])) (length before)) (length before) out r → Answered before out r
+  answered : {before after out : List ℕ} {to : code.Option ℕ} {r : code.Result ℕ lowering.Refusal} (B : Body before after to) → AnsweredWith (program_answer (write_record 50 (body_of B.gs (function_names 0 K.functions []))) (length before)) (length before) out r → Answered before out r
   answered {before} {out = out} {r = r} B f = subst (λ (a : answers.Answer). AnsweredWith a (length before) out r) (sym (rest_is (length before) B.gs B.lowered)) f
 
   pub refused : (before after : List ℕ) (x : LoweringError) → FunctionsPlaced K before after (code.Err x) → Answered before after (code.Err (lower_refused.Lowering x))
@@ -84,16 +85,27 @@ pub passed : (s : List ℕ) (n : ℕ) (out : List ℕ) (r : code.Result ℕ lowe
 unfolding lower_sheet lower_rest
 passed s n out r e a = subst (λ (b : answers.Answer). AnsweredWith b n out r) (sym (rw e)) a
 
--- THE OUTPUT
-pub zeros_behind : (a : answers.Answer) (n : ℕ) (out : List ℕ) (r : code.Result ℕ lowering.Refusal) → AnsweredWith a n out r → sets out (written_by (answer_of r)) (replicate (length out - written_by (answer_of r)) 0) ≡ output_of a n
-zeros_behind (ok b) n out r h = rw (h.is, ← h.same_length) (then_zeros b out h.holds.0 h.holds.1)
-zeros_behind (err x) n out r h = rw (h.is, ← h.same_length) (then_zeros [] out (omega arith) refl)
+-- THE OUTPUT: zeros from the end of what is written on
+abbrev written_by : Result Refusal ℕ → ℕ
+written_by (ok n) = n
+written_by (err x) = 0
+
+written : (r : code.Result ℕ lowering.Refusal) → result_unwrap_or r 0 ≡ written_by (answer_of r)
+written (code.Ok n) = refl
+written (code.Err x) = refl
+
+abbrev pub cleared : (out : List ℕ) → code.Result ℕ lowering.Refusal → List ℕ
+cleared out r = sets out (result_unwrap_or r 0) (replicate (length out - result_unwrap_or r 0) 0)
+
+pub zeros_behind : (a : answers.Answer) (n : ℕ) (out : List ℕ) (r : code.Result ℕ lowering.Refusal) → AnsweredWith a n out r → cleared out r ≡ output_of a n
+zeros_behind (ok b) n out r h = rw (written r, h.is, ← h.same_length) (then_zeros b out h.holds.0 h.holds.1)
+zeros_behind (err x) n out r h = rw (written r, h.is, ← h.same_length) (then_zeros [] out (omega arith) refl)
 
 -- DEMAND 3
-pub demanded : (s : List ℕ) → Bytes s → (n : ℕ) (out : List ℕ) (r : code.Result ℕ lowering.Refusal) → AnsweredWith (lower_sheet s n) n out r → (k : ℕ) → r ≡ code.Ok k → Demand3Of s (take k (sets out (written_by (answer_of r)) (replicate (length out - written_by (answer_of r)) 0)))
+pub demanded : (s : List ℕ) → Bytes s → (n : ℕ) (out : List ℕ) (r : code.Result ℕ lowering.Refusal) → AnsweredWith (lower_sheet s n) n out r → (k : ℕ) → r ≡ code.Ok k → Demand3Of s (take k (cleared out r))
 demanded s h n out r a k e = go (lower_sheet s n) refl a
   where
-    go : (w : answers.Answer) → lower_sheet s n ≡ w → AnsweredWith w n out r → Demand3Of s (take k (sets out (written_by (answer_of r)) (replicate (length out - written_by (answer_of r)) 0)))
+    go : (w : answers.Answer) → lower_sheet s n ≡ w → AnsweredWith w n out r → Demand3Of s (take k (cleared out r))
     go (err x) q a = absurd (err_ok (sym (sym (ap answer_of e) ∙ a.is)))
     go (ok b) q a =
         let size : k ≡ length b = ok_inj (sym (ap answer_of e) ∙ a.is) in

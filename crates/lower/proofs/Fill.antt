@@ -68,7 +68,7 @@ in_room : (n k : ℕ) → k ≤ room_of n → (leb k 32768 && leb k n) ≡ true
 in_room n k h = let w = room_low n in rw (le-leb k 32768 (omega (arith, w.0)), le-leb k n (omega (arith, w.1)))
 
 abbrev Done : (body before after : List ℕ) → code.Result ℕ lowering.Refusal → Type 0
-Done body before after r = AnsweredWith (program_answer body (length before)) (length before) after r
+Done body before after r = AnsweredWith (program_answer (write_record 50 body) (length before)) (length before) after r
 
 pub refused_31 : {body before out : List ℕ} → Laid body before 6 out None → Done body before out (code.Err lower_refused.NoRoom)
 refused_31 {body} {before} f =

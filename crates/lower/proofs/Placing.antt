@@ -11,7 +11,7 @@ use Rattle.definitions.specs.Ast.{Function, Contract}
 use Rattle.definitions.specs.Ir.{IrFunction}
 use Rattle.definitions.specs.Lower.{Lowering, lower_function, lower_functions}
 use Rattle.definitions.specs.Lower as lowering
-use Rattle.definitions.specs.Records.{tnil, treesOf, write_tree, write_trees}
+use Rattle.definitions.specs.Records.{tnil, trees_of, write_tree, write_trees}
 use Rattle.definitions.specs.ProgramSheet.{ir_function_tree}
 use Rattle.definitions.specs.ContractSheet.{read_contract}
 use Rattle.ir.specs.declared.FunctionId.{FunctionId}
@@ -20,16 +20,17 @@ use Rattle.contract_nodes.specs.declared.contract.Function as node
 use Rattle.contract_nodes.proofs.Standing.{ready}
 use Rattle.contract_nodes.proofs.Steps.{params_count}
 use Rattle.contract_nodes.proofs.Tops.{FunctionAt, function_at_lem}
+use Rattle.contract_nodes.specs.Ready.{top_depth}
 use Rattle.contract_lookup.specs.Walked.{left_in, NextFunction}
-use Rattle.contract_lookup.specs.declared.items.Functions.{Functions}
-use Rattle.contract_lookup.specs.declared.items.FunctionIter.{FunctionIter}
+use Rattle.contract_lookup.specs.declared.declarations.Functions.{Functions}
+use Rattle.contract_lookup.specs.declared.declarations.FunctionIter.{FunctionIter}
 use Rattle.lower_walk.specs.Stmts.{LogCtx}
 use Rattle.lower_walk.specs.Layout.{walk_function}
 use Rattle.lower_walk.proofs.Functions.{Whole, Same, function_same}
 use Rattle.lower_walk.proofs.Trees.{trees_more}
 use Rattle.lower_state.specs.declared.refusals.LoweringError.{LoweringError}
 use Rattle.lower_layout.specs.Laid.{room_of, Laid}
-use Rattle.lower_layout.specs.Stored.{BlocksWithin, LaidOrLost}
+use Rattle.lower_layout.specs.Parts.{BlocksWithin, LaidOrLost}
 use Rattle.lower.specs.Whole.{FunctionPlaced, FunctionsPlaced}
 use Rattle.lower_layout.proofs.Storing.{room_low}
 use Rattle.lower.proofs.Fill.{either, then_laid}
@@ -44,7 +45,7 @@ module _ (f : node.Function) (i : ℕ) (starts stops : List ℕ) (sizes : (lengt
 
   same : {r : Lowering LogCtx} → r ≡ walks → Same i (function_in f) lowers r
   same w =
-      let F : FunctionAt f.contract.sheet.now f.at 39 = function_at_lem (ready {d = 39} f.ready) in
+      let F : FunctionAt f.contract.sheet.now f.at top_depth = function_at_lem (ready {d = top_depth} f.ready) in
       subst (Same i (function_in f) lowers) (sym w) (function_same (contract_in f.contract) i (function_in f) starts stops sizes.0 sizes.1 (omega (arith, params_count F, F.few)))
 
   pub not_walked : {x : lowering.LoweringError} → err x ≡ walks → lowers ≡ err x
@@ -60,8 +61,8 @@ module _ (f : node.Function) (i : ℕ) (starts stops : List ℕ) (sizes : (lengt
         go : {l : Lowering IrFunction} {c : LogCtx} → Same i (function_in f) l (ok c) → (g : IrFunction) × ((l ≡ ok g) × Whole i (function_in f) g c)
         go (Same.done g c h) = (g, (refl, h))
 
-    pub within : c.log.at ≤ 32768 → BlocksWithin c.starts c.stops c.next_block c.log.at
-    within h = walked.1.1.ordered h
+    pub within : c.log.at ≤ 32768 → BlocksWithin c
+    within h k l = let o = walked.1.1.ordered h k l in (o.0, (o.1, h))
 
     -- laid down from a log that fits, or lost
     pub put : (before after : List ℕ) (to : ℕ) (r : code.Option ℕ) → LaidOrLost i (function_in f) c before to after r → FunctionPlaced (contract_in f.contract) i (function_in f) before (Some to) after (code.Ok r)
@@ -109,7 +110,7 @@ pub record Along (F : Functions) (before after : List ℕ) (to : code.Option ℕ
   pub same : w.functions.now ≡ F
   pub gs : List IrFunction
   pub left : all_lowered F ≡ lowered_from F gs w.next (left_in w)
-  pub laid : Laid (write_trees (treesOf ir_function_tree gs tnil)) before 6 after to
+  pub laid : Laid (write_trees (trees_of ir_function_tree gs tnil)) before 6 after to
 
 pub begins : {F : Functions} {before : List ℕ} {to : code.Option ℕ} {w : FunctionIter} → w.next ≡ 0 → w.functions.now ≡ F → Laid [] before 6 before to → Along F before before to w
 unfolding write_trees

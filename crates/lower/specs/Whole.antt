@@ -7,7 +7,7 @@ use Rattle.definitions.specs.Result.{Result, err, ok, ◌>>=◌, ◌>>◌, map_e
 use Rattle.definitions.specs.Ast.{Function, Contract}
 use Rattle.definitions.specs.Ir.{IrFunction}
 use Rattle.definitions.specs.Lower.{lower_function, lower_functions, lower_contract}
-use Rattle.definitions.specs.Records.{tnil, write_tree, write_trees, write_record, treesOf}
+use Rattle.definitions.specs.Records.{tnil, write_tree, write_trees, trees_of}
 use Rattle.definitions.specs.ProgramSheet.{ir_function_tree, write_program}
 use Rattle.definitions.specs.Answers as answers
 use Rattle.definitions.specs.Answers.{Refusal, refusal, lower_refusal, length_of}
@@ -30,7 +30,7 @@ FunctionPlaced K i f before to after (code.Ok r) = (g : IrFunction) × ((lower_f
 FunctionPlaced K i f before to after (code.Err e) = (lower_function K i f ≡ err (error_of e)) × (length after ≡ length before)
 
 abbrev pub FunctionsPlaced : Contract → (before after : List ℕ) → code.Result (code.Option ℕ) LoweringError → Type 0
-FunctionsPlaced K before after (code.Ok r) = (gs : List IrFunction) × ((lower_functions K 0 K.functions ≡ ok gs) × Laid (write_trees (treesOf ir_function_tree gs tnil)) before 6 after r)
+FunctionsPlaced K before after (code.Ok r) = (gs : List IrFunction) × ((lower_functions K 0 K.functions ≡ ok gs) × Laid (write_trees (trees_of ir_function_tree gs tnil)) before 6 after r)
 FunctionsPlaced K before after (code.Err e) = (lower_functions K 0 K.functions ≡ err (error_of e)) × (length after ≡ length before)
 
 -- the program's head
@@ -46,12 +46,17 @@ refusal_of refused.NoRoom = refusal 31 []
 abbrev pub answer_of : code.Result ℕ lowering.Refusal → Result Refusal ℕ
 answer_of r = result_of refusal_of (λ n. n) r
 
+-- the bytes of a program, if they have room
+abbrev pub program_answer : List ℕ → (room : ℕ) → answers.Answer
+program_answer b room = do
+  check (leb (length b) 32768 && leb (length b) room) (refusal 31 [])
+  ok b
+
 -- what `lower_sheet` does after its checks
 unfoldable pub lower_rest : Contract → (room : ℕ) → answers.Answer
 lower_rest K room = do
   p ← map_err lower_refusal (lower_contract K)
-  check (leb (length (write_program p)) 32768 && leb (length (write_program p)) room) (refusal 31 [])
-  ok (write_program p)
+  program_answer (write_program p) room
 
 -- an output that begins with what is written
 abbrev pub StartsWith : answers.Answer → List ℕ → Type 0
@@ -63,14 +68,3 @@ pub record AnsweredWith (a : answers.Answer) (n : ℕ) (out : List ℕ) (r : cod
   pub is : answer_of r ≡ length_of a
   pub same_length : length out ≡ n
   pub holds : StartsWith a out
-
--- a program whose functions and names are `body`
-abbrev pub program_answer : List ℕ → (room : ℕ) → answers.Answer
-program_answer body room = do
-  check (leb (length (write_record 50 body)) 32768 && leb (length (write_record 50 body)) room) (refusal 31 [])
-  ok (write_record 50 body)
-
--- how much is written
-abbrev pub written_by : Result Refusal ℕ → ℕ
-written_by (ok n) = n
-written_by (err r) = 0

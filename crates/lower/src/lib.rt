@@ -5,9 +5,9 @@ ghost use Rattle.std.specs.Prelude.{◌≡◌, length, take, IfOk};
 ghost use Rattle.definitions.specs.Answers.{lower_sheet, length_of, output_of};
 ghost use Rattle.definitions.specs.Demand3.{Demand3Of};
 ghost use Rattle.contract_nodes.specs.Nodes.{contract_in, function_in};
-ghost use Rattle.lower.specs.Whole.{FunctionPlaced, FunctionsPlaced, answer_of, lower_rest, AnsweredWith, written_by};
+ghost use Rattle.lower.specs.Whole.{FunctionPlaced, FunctionsPlaced, answer_of, lower_rest, AnsweredWith};
 
-use contract_lookup::items::Functions;
+use contract_lookup::declarations::Functions;
 use contract_nodes::{Contract, Function};
 use format::HEAD;
 use format::kinds::Kind;
@@ -45,7 +45,7 @@ fn place_functions(functions: &Functions, out: &mut [u8]) -> Result<Option<usize
     ensures { FunctionsPlaced (contract_in functions.now.contract) out.old out.new result }
 {
     let mut ctx = FnCtx::new(FunctionId(0));
-    let mut to = place_behind(out, HEAD, 0);
+    let mut to = place_behind(out, 0, HEAD); // room for the program's head, which is written at last
     for (id, f) in functions.iter() {
         to = place_function(&mut ctx, f, id, out, to)?;
     }
@@ -71,13 +71,6 @@ fn lower_sheet(sheet: &[u8], out: &mut [u8]) -> Result<usize, Refusal>
     lower_contract(contract, out)
 }
 
-// Where the zeros start.
-fn written(answer: Result<usize, Refusal>) -> usize
-    ensures { result ≡ written_by (answer_of answer) }
-{
-    answer.unwrap_or(0)
-}
-
 // Lowers a contract sheet: on acceptance the output holds the program sheet and then zeros, on any refusal zeros. Gives the sheet's length.
 pub fn lower(sheet: &[u8], out: &mut [u8]) -> Result<usize, Refusal>
     ensures answered { answer_of result ≡ length_of (lower_sheet sheet.now (length out.old)) }
@@ -85,6 +78,6 @@ pub fn lower(sheet: &[u8], out: &mut [u8]) -> Result<usize, Refusal>
     ensures demand3 { IfOk result (λ n. Demand3Of sheet.now (take n out.new)) }
 {
     let answer = lower_sheet(sheet, out);
-    clear(out, written(answer));
+    clear(out, answer.unwrap_or(0)); // zeros behind the sheet; throughout, if there is none
     answer
 }

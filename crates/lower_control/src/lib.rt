@@ -1,13 +1,13 @@
 // The blocks of If, While and For.
 #![tactic(auto)]
 
-ghost use Rattle.std.specs.Prelude.{◌≡◌, ◌<◌, IfOk, IfErr};
+ghost use Rattle.std.specs.Prelude.{◌≡◌, ◌<◌, IfOk};
 ghost use Rattle.contract_nodes.specs.Nodes.{contract_in, expr_in};
-ghost use Rattle.lower_walk.specs.Stmts.{enter_if, enter_while, two_locals, for_locals, for_header, for_blocks, for_next, for_step, switch_to};
+ghost use Rattle.lower_walk.specs.Stmts.{enter_if, enter_while, two_locals, for_header, for_blocks, for_next, for_step, switch_to};
 ghost use Rattle.lower_walk.specs.Grown.{Grown, LocalMade};
-ghost use Rattle.lower_state.specs.Answers.{with_state};
+ghost use Rattle.lower_state.specs.Answers.{with_state, KeptIfErr};
 ghost use Rattle.lower_state.specs.State.{blocks_of, BlocksMade};
-ghost use Rattle.lower_control.specs.Bounds.{bounds_of};
+ghost use Rattle.lower_control.specs.Bounds.{bounds_of, locals_of};
 
 use contract_nodes::Expr;
 use format::operators::BinOp;
@@ -84,8 +84,7 @@ pub fn for_locals(
     end: Expr,
 ) -> Result<Bounds, LoweringError>
     requires { end.contract.sheet.now ≡ start.contract.sheet.now }
-    ensures is { with_state bounds_of ctx.new result
-        ≡ for_locals (contract_in start.entry.contract) scopes.now.held (expr_in start.entry) (expr_in end.entry) ctx.old }
+    ensures is { with_state bounds_of ctx.new result ≡ locals_of start.entry end.entry scopes.now.held ctx.old }
     ensures made { IfOk result (λ bounds. LocalMade ctx.old ctx.new) }
     ensures grown { Grown ctx.old ctx.new }
 {
@@ -112,7 +111,7 @@ pub fn for_blocks(ctx: &mut FnCtx, bounds: Bounds) -> Result<ThreeBlocks, Loweri
     ensures is { with_state blocks_of ctx.new result ≡ for_blocks (bounds_of bounds) ctx.old }
     ensures among { IfOk result (λ blocks. BlocksMade ctx.new blocks) }
     ensures grown { Grown ctx.old ctx.new }
-    ensures refused { IfErr result (λ e. ctx.new ≡ ctx.old) }
+    ensures refused { KeptIfErr result ctx.old ctx.new }
 {
     let blocks = ctx.three_blocks()?;
     jump(ctx, blocks.first);

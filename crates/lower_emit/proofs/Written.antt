@@ -1,4 +1,4 @@
--- The bytes that the log got are a record's, and what that says of the state: `Pushes`, `Appends`, `Closes`. Assumes nothing.
+-- The bytes that the log got are a record's, and what that says of the state: `Pushes`, `Appends`, `AppendsTerm`. Assumes nothing.
 -- Each emitter has an answer that cites these: with a clause of `push_instr` over any instruction, tried in their place, each has one as well.
 use mathlib.Core.Path.{◌≡◌, refl, ap, sym, ◌∙◌}
 use mathlib.Core.Bool.{Bool, true, false}
@@ -9,19 +9,20 @@ use native.Mathlib.Omega.{arith}
 use lib.Dec.{leb}
 use lib.ListN.{length}
 use Rattle.definitions.specs.Fields.{bytes}
-use Rattle.definitions.specs.Fine.{own_start}
+use Rattle.definitions.specs.Fine.{fields_start}
 use Rattle.definitions.specs.Grammar.{origin_width}
 use Rattle.definitions.specs.InstrTable.{binary_kind}
 use Rattle.definitions.specs.Ir.{IrType, tag_of, unless_void, Instruction, Terminator, result_type}
 use Rattle.definitions.specs.Lower.{result_id}
 use Rattle.definitions.specs.Records.{small, opt, rest, write_tree, write_trees, write_record, write_values, write_value, write_item, write_items, write_type}
 use Rattle.definitions.specs.ProgramSheet.{instr_tree, term_tree}
+use Rattle.ir.specs.Types.{type_code}
 use Rattle.ir.specs.declared.ValueId.{ValueId}
-use Rattle.lower_walk.specs.Log.{Log, room, append, counted, next_value, log_instr, close}
-use Rattle.lower_walk.specs.Stmts.{LogCtx, with_log, push_c}
+use Rattle.lower_walk.specs.Log.{Log, room, append, counted, next_value, log_instr, log_term}
+use Rattle.lower_walk.specs.Stmts.{LogCtx, with_log, push_c, taken}
 use Rattle.lower_state.specs.Bytes.{record_bytes, id_bytes, no_part, id_or}
 use Rattle.lower_state.specs.State.{appended}
-use Rattle.lower_emit.specs.Emitted.{Pushes, taken, type_code}
+use Rattle.lower_emit.specs.Emitted.{Pushes}
 use Rattle.lower_emit.proofs.Listed.{listed}
 
 -- the record of an instruction, if v is the next value
@@ -68,7 +69,7 @@ call_bytes_lem : (f : ℕ) (l : List ℕ) (t : IrType) (v : ℕ)
     → instr_bytes (Instruction.Call f l t) v ≡ write_tree (instr_tree (record { result = result_id (unless_void t) v; instr = Instruction.Call f l t }))
 unfolding record_bytes bytes write_values write_value write_item write_type
 call_bytes_lem f l t v =
-    let n = own_start + 8 + 2 * length l in
+    let n = fields_start + 8 + 2 * length l in
     let o = result_id (unless_void t) v in
     ap (λ z. bytes 4 n ++ bytes 2 77 ++ bytes origin_width 0 ++ bytes 2 (id_or o) ++ bytes 2 f ++ z ++ id_bytes l) (type_bytes t)
     ∙ listed 77 n _ (bytes origin_width 0 ++ bytes 2 (id_or o) ++ bytes 2 f ++ write_type t) l (omega arith)
@@ -76,17 +77,17 @@ call_bytes_lem f l t v =
 
 event_bytes : (e : ℕ) (l : List ℕ) → instr_bytes (Instruction.Emit e l) 0 ≡ write_tree (instr_tree (record { result = none; instr = Instruction.Emit e l }))
 unfolding record_bytes bytes write_values write_value write_item
-event_bytes e l = listed 80 (own_start + 4 + 2 * length l) _ (bytes origin_width 0 ++ bytes 2 65535 ++ bytes 2 e) l (omega arith) refl
+event_bytes e l = listed 80 (fields_start + 4 + 2 * length l) _ (bytes origin_width 0 ++ bytes 2 65535 ++ bytes 2 e) l (omega arith) refl
 
 instr_bytes_lem : (i : Instruction) (v : ℕ) → instr_bytes i v ≡ write_tree (instr_tree (record { result = result_id (result_type i) v; instr = i }))
 unfolding record_bytes bytes write_tree write_trees write_record write_values write_value write_item write_items write_type
-instr_bytes_lem (Instruction.Const t n) v = ap (λ z. bytes 4 (own_start + 14) ++ bytes 2 60 ++ bytes origin_width 0 ++ bytes 2 v ++ z ++ bytes 8 n) (type_bytes t)
-instr_bytes_lem (Instruction.Binary op t l r) v = ap (λ z. bytes 4 (own_start + 10) ++ bytes 2 (binary_kind op) ++ bytes origin_width 0 ++ bytes 2 v ++ z ++ bytes 2 l ++ bytes 2 r) (type_bytes t)
-instr_bytes_lem (Instruction.Load t b o) v = ap (λ z. bytes 4 (own_start + 16) ++ bytes 2 71 ++ bytes origin_width 0 ++ bytes 2 v ++ z ++ bytes 2 b ++ bytes 8 o) (type_bytes t)
+instr_bytes_lem (Instruction.Const t n) v = ap (λ z. bytes 4 (fields_start + 14) ++ bytes 2 60 ++ bytes origin_width 0 ++ bytes 2 v ++ z ++ bytes 8 n) (type_bytes t)
+instr_bytes_lem (Instruction.Binary op t l r) v = ap (λ z. bytes 4 (fields_start + 10) ++ bytes 2 (binary_kind op) ++ bytes origin_width 0 ++ bytes 2 v ++ z ++ bytes 2 l ++ bytes 2 r) (type_bytes t)
+instr_bytes_lem (Instruction.Load t b o) v = ap (λ z. bytes 4 (fields_start + 16) ++ bytes 2 71 ++ bytes origin_width 0 ++ bytes 2 v ++ z ++ bytes 2 b ++ bytes 8 o) (type_bytes t)
 instr_bytes_lem (Instruction.Store b o w) v = refl
-instr_bytes_lem (Instruction.StateRead t s) v = ap (λ z. bytes 4 (own_start + 10) ++ bytes 2 73 ++ bytes origin_width 0 ++ bytes 2 v ++ z ++ bytes 4 s) (type_bytes t)
+instr_bytes_lem (Instruction.StateRead t s) v = ap (λ z. bytes 4 (fields_start + 10) ++ bytes 2 73 ++ bytes origin_width 0 ++ bytes 2 v ++ z ++ bytes 4 s) (type_bytes t)
 instr_bytes_lem (Instruction.StateWrite s w) v = refl
-instr_bytes_lem (Instruction.ReadLocal l t) v = ap (λ z. bytes 4 (own_start + 8) ++ bytes 2 75 ++ bytes origin_width 0 ++ bytes 2 v ++ bytes 2 l ++ z) (type_bytes t)
+instr_bytes_lem (Instruction.ReadLocal l t) v = ap (λ z. bytes 4 (fields_start + 8) ++ bytes 2 75 ++ bytes origin_width 0 ++ bytes 2 v ++ bytes 2 l ++ z) (type_bytes t)
 instr_bytes_lem (Instruction.WriteLocal l w) v = refl
 instr_bytes_lem (Instruction.Call f l t) v = call_bytes_lem f l t v
 instr_bytes_lem (Instruction.Assert c) v = refl
@@ -128,8 +129,8 @@ pushes i {before = b} e n a = record { is = (rw n at a) ∙ ap (λ l. with_log l
 pub appends : (i : Instruction) (c : LogCtx) → result_type i ≡ none → appended (instr_bytes i c.log.value) c ≡ push_c i c
 appends i c e = ap (λ l. with_log l c) (logged i c.log e)
 
-pub closes : (t : Terminator) (c : LogCtx) → appended (term_bytes t) c ≡ with_log (close t c.log) c
-unfolding close
+pub closes : (t : Terminator) (c : LogCtx) → appended (term_bytes t) c ≡ with_log (log_term t c.log) c
+unfolding log_term
 closes t c = ap (λ b. appended b c) (term_bytes_lem t)
 
 -- a type of a call that gives a value

@@ -10,15 +10,16 @@ ghost use Rattle.format.specs.Contexts.{context_number};
 ghost use Rattle.format.specs.Kinds.{instr_number};
 ghost use Rattle.format.specs.Operators.{operator_number};
 ghost use Rattle.ir.specs.Answers.{option_of};
-ghost use Rattle.ir.specs.Types.{as_type};
+ghost use Rattle.ir.specs.Types.{as_type, type_code};
+ghost use Rattle.lower_walk.specs.Stmts.{taken};
 ghost use Rattle.lower_state.specs.Bytes.{part_in, record_bytes};
 ghost use Rattle.lower_state.specs.State.{appended};
-ghost use Rattle.lower_emit.specs.Emitted.{Pushes, Appends, Closes, taken, type_code};
+ghost use Rattle.lower_emit.specs.Emitted.{Pushes, Appends, AppendsTerm};
 
-use format::kinds;
 use format::operators::BinOp;
 use format::program::ContextKind;
-use ir::{BlockId, FunctionId, IrType, LocalId, Name, U64_CODE, VOID_CODE, ValueId};
+use format::{TYPE, kinds};
+use ir::{BlockId, FunctionId, IrType, LocalId, Name, U64_TAG, VOID_TAG, ValueId};
 use lower_state::{FnCtx, Part, id_or_absent};
 
 pub mod args; // the values of a call's or an event's arguments
@@ -27,14 +28,15 @@ pub use args::Args;
 
 const NOTHING: Part = Part::NOTHING;
 
+// The types U64 and Void: tags alone, since they have no name. They are no `Part::four`, which is no constant.
 const U64: Part = Part {
-    width: 4,
-    number: U64_CODE,
+    width: TYPE,
+    number: U64_TAG,
 };
 
 const VOID: Part = Part {
-    width: 4,
-    number: VOID_CODE,
+    width: TYPE,
+    number: VOID_TAG,
 };
 
 // A type as a part of a record.
@@ -76,8 +78,8 @@ fn binary_kind(op: BinOp) -> kinds::Instruction
         BinOp::Sub => kinds::Instruction::Sub,
         BinOp::Mul => kinds::Instruction::Mul,
         BinOp::Div => kinds::Instruction::Div,
-        BinOp::Eq => kinds::Instruction::Eq,
-        BinOp::Neq => kinds::Instruction::Ne,
+        BinOp::Eq => kinds::Instruction::IrEq,
+        BinOp::Neq => kinds::Instruction::IrNe,
         BinOp::Lt => kinds::Instruction::Lt,
         BinOp::Gt => kinds::Instruction::Gt,
         BinOp::Lte => kinds::Instruction::Le,
@@ -225,33 +227,26 @@ pub fn emit_event(ctx: &mut FnCtx, event: Name, args: &Args)
     );
 }
 
-// The number of what a ContextRead reads.
-fn context_number(context: ContextKind) -> u16
-    ensures { result ≡ context_number context }
-{
-    context as u16
-}
-
 pub fn emit_context_read(ctx: &mut FnCtx, context: ContextKind) -> ValueId
     ensures { Pushes (Instruction.ContextRead (context_number context)) ctx.old ctx.new result }
 {
     push_instr(
         ctx,
         kinds::Instruction::ContextRead,
-        Part::id(context_number(context)),
+        Part::id(context as u16),
         NOTHING,
         NOTHING,
     )
 }
 
 pub fn emit_jump(ctx: &mut FnCtx, target: BlockId)
-    ensures { Closes (Terminator.Jump target.0) ctx.old ctx.new }
+    ensures { AppendsTerm (Terminator.Jump target.0) ctx.old ctx.new }
 {
     ctx.append_terminator(kinds::Terminator::Jump, target.0, NOTHING, NOTHING);
 }
 
 pub fn emit_branch(ctx: &mut FnCtx, condition: ValueId, then_block: BlockId, else_block: BlockId)
-    ensures { Closes (Terminator.Branch condition.0 then_block.0 else_block.0) ctx.old ctx.new }
+    ensures { AppendsTerm (Terminator.Branch condition.0 then_block.0 else_block.0) ctx.old ctx.new }
 {
     let yes = Part::id(then_block.0);
     let no = Part::id(else_block.0);
@@ -259,7 +254,7 @@ pub fn emit_branch(ctx: &mut FnCtx, condition: ValueId, then_block: BlockId, els
 }
 
 pub fn emit_return(ctx: &mut FnCtx, value: Option<ValueId>)
-    ensures { Closes (Terminator.Return (option_of (λ v. v.0) value)) ctx.old ctx.new }
+    ensures { AppendsTerm (Terminator.Return (option_of (λ v. v.0) value)) ctx.old ctx.new }
 {
     ctx.append_terminator(
         kinds::Terminator::Return,

@@ -7,14 +7,14 @@ ghost use Rattle.contract_nodes.specs.Nodes.{contract_in, expr_in, exprs_in, cou
 ghost use Rattle.lower_walk.specs.Exprs.{walk_expr, walk_expr_value};
 ghost use Rattle.lower_state.specs.Answers.{with_state};
 ghost use Rattle.lower_values.specs.Values.{value_in, LogAlone};
-ghost use Rattle.lower_exprs.specs.Calls.{call_of};
+ghost use Rattle.lower_exprs.specs.Calls.{call_on};
 
 use contract_nodes::{Expr, ExprNode, Exprs};
 use ir::Name;
 use lower_emit::Args;
 use lower_names::Scopes;
 use lower_state::{FnCtx, LoweringError};
-use lower_values::calls::{Callee, callee_named, finish_call};
+use lower_values::calls::{Called, finish_call, resolve};
 use lower_values::{Value, leaves};
 
 // An expression, with the names that are held. What it gives is nothing, if it is a call of a function that gives nothing.
@@ -55,8 +55,8 @@ pub fn lower_expr_value(ctx: &mut FnCtx, scopes: &Scopes, e: Expr) -> Result<Val
     lower_expr(ctx, scopes, e)?.ok_or(LoweringError::VoidAsValue)
 }
 
-// A call: what is called, then its arguments, then the call itself. `finish_call` matches the callee too, but a read of the context ignores its
-// arguments, as in the Rust: they are not lowered. The loop over arguments stands in `lower_simple::lower_emit` too: the form of document 01 is a
+// A call: what is called, then its arguments, then the call itself. `finish_call` matches it too, but a read of the context ignores its
+// arguments, as in the Rust: they are not lowered. The loop over arguments stands in `lower_simple::lower_emit_stmt` too: the form of document 01 is a
 // cycle of three functions, and a function for the loop would be a fourth.
 #[cycle(exprs)]
 #[tactic(auto, unfolding(lower_walk::specs::Exprs::walk_call))]
@@ -67,18 +67,17 @@ fn lower_call(
     args: Exprs,
 ) -> Result<Option<Value>, LoweringError>
     requires { count_of (exprs_in args) ≤ 16 }
-    ensures is { with_state (option_of value_in) ctx.new.log result
-        ≡ call_of (contract_in args.entry.contract) scopes.now.held name.0 (exprs_in args.entry) ctx.old.log }
+    ensures is { with_state (option_of value_in) ctx.new.log result ≡ call_on args.entry scopes.now.held name.0 ctx.old.log }
     ensures log_alone { LogAlone ctx.old ctx.new }
 {
-    let callee = callee_named(args.contract, name, args.len())?;
+    let called = resolve(args.contract, name, args.len())?;
     let mut values = Args::new();
-    if let Callee::Context(_) = callee {
-        return finish_call(ctx, callee, &values);
+    if let Called::Context(_) = called {
+        return finish_call(ctx, called, &values);
     }
     for arg in args {
         let (value, _) = lower_expr_value(ctx, scopes, arg)?;
         values.push(value);
     }
-    finish_call(ctx, callee, &values)
+    finish_call(ctx, called, &values)
 }

@@ -2,14 +2,14 @@
 // would be made here only to be taken apart again.
 #![tactic(auto)]
 
-ghost use Rattle.std.specs.Prelude.{◌≡◌, ◌<◌, IfOk, IfErr};
+ghost use Rattle.std.specs.Prelude.{◌≡◌, ◌<◌, IfOk};
 ghost use Rattle.std.proofs.Math.Option.{none};
 ghost use Rattle.definitions.specs.Ir.{Terminator};
 ghost use Rattle.ir.specs.Answers.{option_of};
 ghost use Rattle.ir.specs.Types.{as_type};
 ghost use Rattle.lower_walk.specs.Stmts.{terminate, terminate_if_open, next_arm, init_local};
 ghost use Rattle.lower_walk.specs.Grown.{Grown, LocalMade};
-ghost use Rattle.lower_state.specs.Answers.{with_state};
+ghost use Rattle.lower_state.specs.Answers.{with_state, KeptIfErr};
 
 use ir::{BlockId, IrType, LocalId, ValueId};
 use lower_emit::{emit_branch, emit_jump, emit_return, emit_write_local};
@@ -82,7 +82,7 @@ pub fn init_local(ctx: &mut FnCtx, ty: IrType, value: ValueId) -> Result<LocalId
     ensures is { with_state (λ l. l.0) ctx.new result ≡ init_local (as_type ty) value.0 ctx.old }
     ensures made { IfOk result (λ local. LocalMade ctx.old ctx.new) }
     ensures grown { Grown ctx.old ctx.new }
-    ensures refused { IfErr result (λ e. ctx.new ≡ ctx.old) }
+    ensures refused { KeptIfErr result ctx.old ctx.new }
 {
     let local = ctx.new_local(ty)?;
     emit_write_local(ctx, local, value);

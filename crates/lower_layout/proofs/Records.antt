@@ -27,7 +27,7 @@ use Rattle.lower_walk.specs.Layout.{block_bytes, blocks_bytes, param_values, hea
 use Rattle.lower_state.specs.Bytes.{Put}
 use Rattle.lower_state.proofs.Appending.{◌then◌}
 use Rattle.lower_layout.specs.Laid.{Laid}
-use Rattle.lower_layout.specs.Stored.{LaidOrLost, blocks_part, head_of, head_size}
+use Rattle.lower_layout.specs.Parts.{LaidOrLost, blocks_part, head_of, head_size}
 use Rattle.lower_layout.proofs.Storing.{put_length, run, run_more, put_as}
 
 -- BLOCKS

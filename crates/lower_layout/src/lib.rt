@@ -1,4 +1,4 @@
-// The program sheet from the log: a counting pass, then each function's record at its known place, its blocks in the order of their ids.
+// The records of the program sheet: a function's is sized and written right after its walk, from the log, with its blocks in the order of their ids.
 #![tactic(auto)]
 
 // `out` and `to` stay two parameters: a struct of both would have a `&mut` in it, and each promise would have to say that it is the same memory still.
@@ -14,12 +14,12 @@ ghost use Rattle.contract_nodes.specs.Nodes.{function_in};
 ghost use Rattle.lower_walk.specs.Layout.{param_values};
 ghost use Rattle.lower_state.specs.Bytes.{Put};
 ghost use Rattle.lower_layout.specs.Laid.{behind};
-ghost use Rattle.lower_layout.specs.Stored.{BlocksWithin, Within, blocks_part, head_of, head_size, LaidOrLost};
+ghost use Rattle.lower_layout.specs.Parts.{BlocksWithin, blocks_part, head_of, head_size, LaidOrLost};
 
 use contract_lookup::types::{own_return_type, parse_ir_type};
 use contract_nodes::Function;
 use format::kinds::Kind;
-use format::{COUNT, ID, KIND, LENGTH_BYTES, MOST, TYPE, program};
+use format::{COUNT, ID, KIND, KIND_BYTES, LENGTH_BYTES, MOST_BYTES, TYPE, program};
 use ir::{BlockId, FunctionId, IrType};
 use lower_state::FnCtx;
 use writer::{copy, write};
@@ -28,7 +28,7 @@ use writer::{copy, write};
 pub fn place_behind(out: &[u8], to: usize, size: usize) -> Option<usize>
     ensures { result ≡ behind (length out.now) to size }
 {
-    let room = out.len().min(MOST);
+    let room = out.len().min(MOST_BYTES);
     to.checked_add(size).filter(|end| *end <= room)
 }
 
@@ -38,12 +38,12 @@ pub fn write_head(out: &mut [u8], to: usize, size: usize, kind: Kind)
     ensures { out.new ≡ sets out.old to (bytes 4 size ++ bytes 2 (kind_number kind)) }
 {
     write(out, to, LENGTH_BYTES, size);
-    write(out, to + KIND, 2, u16::from(kind) as usize);
+    write(out, to + KIND, KIND_BYTES, u16::from(kind) as usize);
 }
 
 // The bytes of all blocks.
 fn blocks_size(ctx: &FnCtx) -> usize
-    requires { Within ctx.now }
+    requires { BlocksWithin ctx.now }
     ensures is { result ≡ length (blocks_part ctx.now) }
     ensures most { result ≤ 32776 * 256 }
 {
@@ -68,7 +68,7 @@ fn lay_block(block: BlockId, records: &[u8], out: &mut [u8], to: usize) -> usize
 
 // All blocks.
 fn lay_blocks(ctx: &FnCtx, out: &mut [u8], to: usize)
-    requires within { Within ctx.now }
+    requires within { BlocksWithin ctx.now }
     requires room { to + length (blocks_part ctx.now) ≤ length out.old }
     ensures { out.new ≡ sets out.old to (blocks_part ctx.now) }
 {
@@ -138,7 +138,7 @@ fn lay_head(
 
 // How long a function's record is.
 fn function_size(f: Function, ctx: &FnCtx) -> usize
-    requires { Within ctx.now }
+    requires { BlocksWithin ctx.now }
     ensures { result ≡ head_size (function_in f.entry) (length ctx.now.locals) + length (blocks_part ctx.now) }
 {
     let params = program::PARAM * f.param_count();
@@ -154,7 +154,7 @@ pub fn lay_function(
     out: &mut [u8],
     to: usize,
 ) -> Option<usize>
-    requires { ctx.now.log.at ≤ 32768 → BlocksWithin ctx.now.starts ctx.now.stops ctx.now.next_block ctx.now.log.at }
+    requires { ctx.now.log.at ≤ 32768 → BlocksWithin ctx.now }
     ensures { LaidOrLost id.0 (function_in f.entry) ctx.now out.old to out.new result }
 {
     if !ctx.is_whole() {

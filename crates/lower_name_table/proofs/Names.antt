@@ -15,7 +15,7 @@ use Rattle.std.proofs.lemmas.Iterator.Consumers.{YieldsList-from_shown}
 use Rattle.definitions.specs.Ast.{Function}
 use Rattle.definitions.specs.Lower.{set_name, function_names}
 use Rattle.definitions.specs.Names.{last_named, or_this}
-use Rattle.definitions.specs.Records.{pick, tnil, treesOf, write_item, write_value, write_record, write_values, write_tree, write_trees}
+use Rattle.definitions.specs.Records.{pick, tnil, trees_of, write_item, write_value, write_record, write_values, write_tree, write_trees}
 use Rattle.definitions.specs.Fields.{bytes}
 use Rattle.definitions.specs.Ir.{IrType}
 use Rattle.definitions.specs.ProgramSheet.{function_name_tree}
@@ -27,8 +27,8 @@ use Rattle.contract_nodes.specs.Nodes.{contract_in, function_in}
 use Rattle.contract_nodes.specs.declared.contract.Function as code
 use Rattle.contract_lookup.specs.Answers.{id_named}
 use Rattle.contract_lookup.specs.Walked.{left_in, NextFunction, TakesNext}
-use Rattle.contract_lookup.specs.declared.items.Functions.{Functions}
-use Rattle.contract_lookup.specs.declared.items.FunctionIter.{FunctionIter}
+use Rattle.contract_lookup.specs.declared.declarations.Functions.{Functions}
+use Rattle.contract_lookup.specs.declared.declarations.FunctionIter.{FunctionIter}
 use Rattle.lower_walk.proofs.Trees.{trees_append, trees_more}
 use Rattle.lower_layout.specs.Laid.{Laid}
 use Rattle.lower_layout.proofs.Storing.{laid_then, laid_lost}
@@ -150,7 +150,7 @@ functions_left w = YieldsList-from_shown TakesNext (λ p. function_in p.1) left_
 
 -- LAYING THE NAMES DOWN
 abbrev name_rows : Rows → List ℕ
-name_rows rs = write_trees (treesOf function_name_tree rs tnil)
+name_rows rs = write_trees (trees_of function_name_tree rs tnil)
 
 abbrev all_of : Functions → List Function
 all_of F = (contract_in F.contract).functions

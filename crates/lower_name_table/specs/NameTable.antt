@@ -4,7 +4,7 @@ use Rattle.std.specs.List.{list_any}
 use Rattle.definitions.specs.Ast.{Function, Contract}
 use Rattle.definitions.specs.Lower.{function_names}
 use Rattle.definitions.specs.ProgramSheet.{function_name_tree}
-use Rattle.definitions.specs.Records.{tnil, treesOf, write_trees}
+use Rattle.definitions.specs.Records.{tnil, trees_of, write_trees}
 
 -- whether one of the first n functions has the name m
 abbrev pub is_named : (m n : ℕ) → List Function → Bool
@@ -12,4 +12,4 @@ is_named m n fs = list_any (λ (f : Function). eqb f.name m) (take n fs)
 
 -- the records of the functions' names
 abbrev pub names_of : Contract → List ℕ
-names_of K = write_trees (treesOf function_name_tree (function_names 0 K.functions []) tnil)
+names_of K = write_trees (trees_of function_name_tree (function_names 0 K.functions []) tnil)

@@ -13,8 +13,8 @@ ghost use Rattle.contract_lookup.specs.Answers.{id_named};
 ghost use Rattle.lower_layout.specs.Laid.{Laid};
 ghost use Rattle.lower_name_table.specs.NameTable.{is_named, names_of};
 
-use contract_lookup::items::Functions;
-use contract_lookup::symbols::signature_named;
+use contract_lookup::declarations::Functions;
+use contract_lookup::symbols::function_named;
 use format::kinds::Kind;
 use format::{ID, program};
 use ir::{FunctionId, Name};
@@ -50,7 +50,7 @@ fn last_id(functions: &Functions, name: Name) -> FunctionId
     requires { (p : ℕ × defs.IrType) × (id_named (contract_in functions.now.contract) name.0 ≡ some p) }
     ensures { (i : ℕ) (t : defs.IrType) → id_named (contract_in functions.now.contract) name.0 ≡ some (i, t) → result.0 ≡ i }
 {
-    signature_named(functions.contract, name).unwrap().function
+    function_named(functions.contract, name).unwrap().function
 }
 
 // A record for each distinct name in order of first appearance, with the last id; the place behind them, if they fit.

@@ -1,4 +1,4 @@
--- The list of entries as the names that are held: one more, some dropped, and the search from its end. Assumes nothing.
+-- The list that the code keeps as the names that are held: one more, some dropped, and the search from its end. Assumes nothing.
 use mathlib.Core.Path.{◌≡◌, refl, ap, sym, ◌∙◌}
 use mathlib.Core.Bool.{Bool}
 use mathlib.Core.List.{List, [], ◌∷◌, ◌++◌, map, reverse}
@@ -17,16 +17,16 @@ use Rattle.ir.specs.Answers.{option_of}
 use Rattle.ir.specs.Types.{as_type}
 use Rattle.lower_walk.specs.Held.{Held, names}
 use Rattle.lower_names.specs.HeldNames.{HeldNames, with_name, outside}
-use Rattle.lower_names.specs.Entries.{held_of, held_in, local_of}
-use Rattle.lower_names.specs.declared.held.Entry.{Entry}
+use Rattle.lower_names.specs.Scopes.{held_of, held_in, local_of}
+use Rattle.lower_names.specs.declared.held.HeldName.{HeldName}
 
-one_more : (l : List Entry) (e : Entry) → held_in (l ++ (e ∷ [])) ≡ held_of e ∷ held_in l
+one_more : (l : List HeldName) (e : HeldName) → held_in (l ++ (e ∷ [])) ≡ held_of e ∷ held_in l
 one_more l e = rw reverse-append refl
 
-held_length : (l : List Entry) → length (held_in l) ≡ length l
+held_length : (l : List HeldName) → length (held_in l) ≡ length l
 held_length l = rw (length-map, length-reverse) refl
 
-held_drop : (l : List Entry) (m : ℕ) → m ≤ length l → held_in (take m l) ≡ drop (length l - m) (held_in l)
+held_drop : (l : List HeldName) (m : ℕ) → m ≤ length l → held_in (take m l) ≡ drop (length l - m) (held_in l)
 held_drop l m h =
     let behind : Held = map held_of (reverse (drop m l)) in
     let all : behind ++ held_in (take m l) ≡ held_in l =
@@ -35,37 +35,37 @@ held_drop l m h =
     rw (many, ← all) (sym (drop-append_seam behind (held_in (take m l))))
 
 -- WHAT A CONTRACT SEES
-module _ (l : List Entry) (scope : ℕ) {v : HeldNames} (view-is : record { held = held_in l; scope = scope } ≡ v) where
+module _ (l : List HeldName) (scope : ℕ) {v : HeldNames} (view-is : record { held = held_in l; scope = scope } ≡ v) where
   pub count_is : length l ≡ length v.held
   count_is = sym (held_length l) ∙ ap (λ (w : HeldNames). length w.held) view-is
 
-  pub more_is : (e : Entry) {m : List Entry} → m ≡ l ++ (e ∷ []) → e.scope ≡ scope → ◌≡◌ {A = HeldNames} (record { held = held_in m; scope = scope }) (with_name e.name.0 e.local.0 (as_type e.ty) v)
+  pub more_is : (e : HeldName) {m : List HeldName} → m ≡ l ++ (e ∷ []) → e.scope ≡ scope → ◌≡◌ {A = HeldNames} (record { held = held_in m; scope = scope }) (with_name e.name.0 e.local.0 (as_type e.ty) v)
   more_is e h q = rw (← view-is, h, one_more l e, q)
 
-  pub cut : (n : ℕ) {m : List Entry} → m ≡ take n l → n ≤ length l → record { held = held_in m; scope = scope - 1 } ≡ outside n v
+  pub cut : (n : ℕ) {m : List HeldName} → m ≡ take n l → n ≤ length l → record { held = held_in m; scope = scope - 1 } ≡ outside n v
   cut n h q = rw (← view-is, h, held_length l) (ap (λ (es : Held). record { held = es; scope = scope - 1 }) (held_drop l n q))
 
 -- THE SEARCH, newest first
-abbrev stands_for : Entry → ℕ × IrType
+abbrev stands_for : HeldName → ℕ × IrType
 stands_for e = (e.local.0, as_type e.ty)
 
-abbrev pub has : ℕ → Entry → Bool
+abbrev pub has : ℕ → HeldName → Bool
 has name e = eqb e.name.0 name
 
-newest : (name : ℕ) (l : List Entry) → option_of stands_for (find (has name) l) ≡ in_scope name (names (map held_of l))
+newest : (name : ℕ) (l : List HeldName) → option_of stands_for (find (has name) l) ≡ in_scope name (names (map held_of l))
 newest name [] = refl
 newest name (e ∷ es) =
     by_test (has name e)
     (λ q. rw (q, in_scope))
     (λ q. rw (q, in_scope) (newest name es))
 
-picked : {B : Type 0} (now : B → Entry) (r : Option B) → option_of local_of (option_map (λ b. ((now b).local, (now b).ty)) r) ≡ option_of stands_for (option_map now r)
+picked : {B : Type 0} (now : B → HeldName) (r : Option B) → option_of local_of (option_map (λ b. ((now b).local, (now b).ty)) r) ≡ option_of stands_for (option_map now r)
 picked now None = refl
 picked now (Some b) = refl
 
 -- by what the search through references gave
-module _ (l : List Entry) (scope : ℕ) {v : HeldNames} (view-is : record { held = held_in l; scope = scope } ≡ v) where
-  pub looked_up : {B : Type 0} (now : B → Entry) (name : ℕ) (r : Option B) {m : List Entry} → m ≡ l → option_map now r ≡ find (has name) (reverse m) → option_of local_of (option_map (λ b. ((now b).local, (now b).ty)) r) ≡ in_scope name (names v.held)
+module _ (l : List HeldName) (scope : ℕ) {v : HeldNames} (view-is : record { held = held_in l; scope = scope } ≡ v) where
+  pub looked_up : {B : Type 0} (now : B → HeldName) (name : ℕ) (r : Option B) {m : List HeldName} → m ≡ l → option_map now r ≡ find (has name) (reverse m) → option_of local_of (option_map (λ b. ((now b).local, (now b).ty)) r) ≡ in_scope name (names v.held)
   looked_up now name r h found =
       let all = ap (λ (w : HeldNames). in_scope name (names w.held)) view-is in
-      picked now r ∙ (ap (option_of stands_for) (found ∙ ap (λ (m : List Entry). find (has name) (reverse m)) h) ∙ (newest name (reverse l) ∙ all))
+      picked now r ∙ (ap (option_of stands_for) (found ∙ ap (λ (m : List HeldName). find (has name) (reverse m)) h) ∙ (newest name (reverse l) ∙ all))

@@ -1,2 +1,2 @@
 pub mod HeldNames
-pub mod Entries
+pub mod Scopes

@@ -6,7 +6,7 @@ use std::marker::Model;
 
 // A name with the number of its scope, its local and its type.
 #[derive(Clone, Copy, Debug, Default)]
-struct Entry {
+struct HeldName {
     name: Name,
     scope: u16,
     local: LocalId,
@@ -17,7 +17,7 @@ struct Entry {
 // body is one more than what it stands in. Each name has a local, so that at most so many are held as there may be locals.
 #[derive(Drop)]
 pub struct Scopes {
-    entries: ArrayVec<Entry, MOST_LOCALS>,
+    names: ArrayVec<HeldName, MOST_LOCALS>,
     scope: u16,
 }
 
@@ -27,7 +27,7 @@ impl Model for Scopes {
 
     ghost Value = { HeldNames };
 
-    ghost use Rattle.lower_names.specs.Entries.{held_names_in};
+    ghost use Rattle.lower_names.specs.Scopes.{held_names_in};
 
     ghost view = { held_names_in };
 }
@@ -39,14 +39,14 @@ impl Scopes {
     ghost use Rattle.ir.specs.Types.{as_type};
     ghost use Rattle.lower_walk.specs.Held.{names};
     ghost use Rattle.lower_names.specs.HeldNames.{with_name, inside, outside};
-    ghost use Rattle.lower_names.specs.Entries.{local_of};
+    ghost use Rattle.lower_names.specs.Scopes.{local_of};
 
     // No name is held, and a function's own scope is open.
     pub fn new() -> Scopes
         ensures { result ≡ record { held = []; scope = 0 } }
     {
         Scopes {
-            entries: ArrayVec::new(),
+            names: ArrayVec::new(),
             scope: 0,
         }
     }
@@ -55,14 +55,14 @@ impl Scopes {
     pub fn len(&self) -> usize
         ensures { result ≡ length self.now.held }
     {
-        self.entries.len()
+        self.names.len()
     }
 
-    // The local and type of the newest entry of a name.
+    // The local and type that a name stands for: those of the newest that is held.
     pub fn lookup(&self, name: Name) -> Option<(LocalId, IrType)>
         ensures { option_of local_of result ≡ in_scope name.0 (names self.now.held) }
     {
-        self.entries
+        self.names
             .as_slice()
             .iter()
             .rev()
@@ -75,7 +75,7 @@ impl Scopes {
         requires { length self.old.held < 256 }
         ensures { self.new ≡ with_name name.0 local.0 (as_type ty) self.old }
     {
-        self.entries.push(Entry {
+        self.names.push(HeldName {
             name,
             scope: self.scope,
             local,
@@ -96,7 +96,7 @@ impl Scopes {
         requires { (mark ≤ length self.old.held) × (0 < self.old.scope) }
         ensures { self.new ≡ outside mark self.old }
     {
-        self.entries.truncate(mark);
+        self.names.truncate(mark);
         self.scope -= 1;
     }
 }

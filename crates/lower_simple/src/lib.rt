@@ -3,10 +3,10 @@
 
 ghost use Rattle.std.specs.Prelude.{◌≡◌, ℕ, ◌≤◌, IfOk};
 ghost use Rattle.definitions.specs.Ast.{Stmt};
-ghost use Rattle.contract_nodes.specs.Nodes.{opt_expr_in, expr_in, exprs_in, count_of};
+ghost use Rattle.contract_nodes.specs.Nodes.{expr_in, exprs_in, count_of};
 ghost use Rattle.lower_walk.specs.Grown.{Grown, LocalMade};
 ghost use Rattle.contract_nodes.specs.declared.contract.Contract.{Contract};
-ghost use Rattle.lower_simple.specs.Stated.{stated, let_stated, stmt_on, OnSheet};
+ghost use Rattle.lower_simple.specs.Stated.{stated, let_stated, stmt_on, return_on, OnSheet};
 
 use contract_lookup::symbols::storage_slot;
 use contract_nodes::{Expr, Exprs};
@@ -87,8 +87,7 @@ pub fn lower_return(
     scopes: &Scopes,
     value: Option<Expr>,
 ) -> Result<(), LoweringError>
-    ensures is { (K : Contract) (p : ℕ) → OnSheet K value.entry
-        → stated ctx.new scopes.now result ≡ stmt_on K scopes.now (Stmt.Return p (opt_expr_in value.entry)) ctx.old }
+    ensures is { (K : Contract) (p : ℕ) → OnSheet K value.entry → stated ctx.new scopes.now result ≡ return_on K scopes.now p value.entry ctx.old }
     ensures grown { Grown ctx.old ctx.new }
 {
     let value = match value {
@@ -100,7 +99,7 @@ pub fn lower_return(
 }
 
 // Emit: the arguments, then the event. The loop over arguments stands in `lower_exprs::lower_call` too, where the reason stands.
-pub fn lower_emit(
+pub fn lower_emit_stmt(
     ctx: &mut FnCtx,
     scopes: &Scopes,
     event: Name,

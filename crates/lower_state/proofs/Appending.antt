@@ -10,7 +10,7 @@ use lib.ListN.{length, take, drop, length-append}
 use lib.Seq.{sets, sets-eq, take_at, length-take-le}
 use Rattle.std.specs.Prelude.{Option, None, Some}
 use Rattle.definitions.proofs.Fields.{length_bytes}
-use Rattle.definitions.specs.Fine.{own_start}
+use Rattle.definitions.specs.Fine.{fields_start}
 use Rattle.writer.proofs.Stores.{sets_append}
 use Rattle.lower_walk.specs.Log.{Log, room, append, capped, log_of}
 use Rattle.lower_state.specs.Bytes.{log_end, record_bytes, Put, Added}
@@ -53,6 +53,6 @@ pub ◌then◌ : {x y l m n : List ℕ} {a b c : ℕ} → Put x l a m b → Put 
     record { is = q.is ∙ rw (p.past, p.is) (sym (sets_append x y l a)); past = rw length-append (omega (arith, p.past, q.past)) }
 
 -- a record's size
-pub length_record : (kind first : ℕ) (a b c : ℕ × ℕ) (ids : List ℕ) → length (record_bytes kind first a b c ids) ≡ own_start + 2 + a.0 + b.0 + c.0 + 2 * length ids
+pub length_record : (kind first : ℕ) (a b c : ℕ × ℕ) (ids : List ℕ) → length (record_bytes kind first a b c ids) ≡ fields_start + 2 + a.0 + b.0 + c.0 + 2 * length ids
 unfolding record_bytes
 length_record kind first a b c ids = simp (length-append, length_bytes, length_ids) (omega arith)

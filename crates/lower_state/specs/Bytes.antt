@@ -4,7 +4,7 @@ use Rattle.std.specs.Prelude.{ℕ, ◌+◌, ◌*◌, ◌≤◌, ◌≡◌, List,
 use Rattle.std.proofs.Math.Option as maths
 use Rattle.std.proofs.lemmas.List.Edits.{sets}
 use Rattle.definitions.specs.Fields.{bytes}
-use Rattle.definitions.specs.Fine.{own_start}
+use Rattle.definitions.specs.Fine.{fields_start}
 use Rattle.definitions.specs.Grammar.{origin_width}
 use Rattle.definitions.specs.Records.{small, write_items}
 use Rattle.ir.specs.declared.ValueId.{ValueId}
@@ -38,7 +38,7 @@ ids_of ids = map (λ (v : ValueId). v.0) ids
 -- size, kind, the two bytes that the fields start with, three parts, and ids
 unfoldable pub record_bytes : (kind first : ℕ) (a b c : ℕ × ℕ) (ids : List ℕ) → List ℕ
 record_bytes kind first a b c ids =
-    bytes 4 (own_start + 2 + a.0 + b.0 + c.0 + 2 * length ids) ++ bytes 2 kind ++ bytes origin_width 0 ++ bytes 2 first ++ bytes a.0 a.1 ++ bytes b.0 b.1 ++ bytes c.0 c.1 ++ id_bytes ids
+    bytes 4 (fields_start + 2 + a.0 + b.0 + c.0 + 2 * length ids) ++ bytes 2 kind ++ bytes origin_width 0 ++ bytes 2 first ++ bytes a.0 a.1 ++ bytes b.0 b.1 ++ bytes c.0 c.1 ++ id_bytes ids
 
 -- the log's end as a number: more than the room once all is lost
 abbrev pub log_end : Option ℕ → ℕ

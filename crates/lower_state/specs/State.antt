@@ -1,13 +1,9 @@
 -- The code's state in the words of the walk. Assumes nothing: these are definitions.
-use Rattle.std.specs.Prelude.{ℕ, ◌≤◌, ◌<◌, List, map, take, length, set, ltb, true, get_or, IfSome}
-use Rattle.definitions.specs.Ir.{IrType}
-use Rattle.definitions.specs.Records.{pick}
-use Rattle.definitions.specs.Result.{err, ok}
-use Rattle.definitions.specs.Lower.{LoweringError, Lowering}
+use Rattle.std.specs.Prelude.{ℕ, ◌≤◌, ◌<◌, List, map, take, get_or, IfSome}
 use Rattle.ir.specs.Types.{as_type}
 use Rattle.lower_walk.specs.Log.{append, log_of}
 use Rattle.lower_walk.specs.Stmts as walk
-use Rattle.lower_walk.specs.Stmts.{LogCtx, with_log, with_local}
+use Rattle.lower_walk.specs.Stmts.{LogCtx, with_log}
 use Rattle.lower_state.specs.Bytes.{log_end}
 use Rattle.lower_state.specs.declared.ctx.ThreeBlocks.{ThreeBlocks}
 use Rattle.lower_state.specs.declared.ctx.Span.{Span}
@@ -43,14 +39,6 @@ pub record BlocksMade (c : LogCtx) (b : ThreeBlocks) : Type 0 where
 -- bytes behind the last record
 abbrev pub appended : List ℕ → LogCtx → LogCtx
 appended x c = with_log (append x c.log) c
-
--- a new local, with nothing written to it
-abbrev pub new_local : IrType → LogCtx → Lowering (LogCtx × ℕ)
-new_local t c = pick (ltb (length c.locals) 256) (ok (with_local t c, length c.locals)) (err (LoweringError.TooManyBlocksOrLocals c.fid))
-
--- the current block's records stop where the log ends
-abbrev pub closed : LogCtx → LogCtx
-closed c = record { fid = c.fid; log = c.log; next_block = c.next_block; current = c.current; ended = true; locals = c.locals; starts = c.starts; stops = set c.stops c.current c.log.at }
 
 -- the records of the block k stand in the log, which holds all
 abbrev pub BlockWithin : LogCtx → (k : ℕ) → Type 0

@@ -1,12 +1,11 @@
 // A function under way.
 ghost use Rattle.std.specs.Prelude.{◌≡◌, ◌≤◌, IfSome};
-ghost use Rattle.format.specs.Kinds.{instr_number, term_number};
 ghost use Rattle.lower_walk.specs.Log.{capped};
 ghost use Rattle.lower_state.specs.Bytes.{log_end};
 
 use crate::records::put_record;
 use crate::{LOST, Log, LoweringError, MOST_BLOCKS, MOST_LOCALS, Part, id_or_absent};
-use format::{MOST, kinds};
+use format::{MOST_BYTES, kinds};
 use ir::{BlockId, FunctionId, IrType, LocalId, ValueId};
 use lower_counters::Counters;
 use std::marker::Model;
@@ -64,30 +63,16 @@ fn place_of(to: Option<usize>) -> u32
     to.unwrap_or(LOST) as u32
 }
 
-// The number of a kind.
-fn instr_number(kind: kinds::Instruction) -> u16
-    ensures { result ≡ instr_number kind }
-{
-    kind as u16
-}
-
-fn term_number(kind: kinds::Terminator) -> u16
-    ensures { result ≡ term_number kind }
-{
-    kind as u16
-}
-
 impl FnCtx {
-    ghost use Rattle.std.specs.Prelude.{suc, ◌%◌, ◌≤◌, ◌<◌, [], map, length, leb, get_or, replicate, IfOk, IfErr};
+    ghost use Rattle.std.specs.Prelude.{◌≤◌, ◌<◌, [], map, length, leb, get_or, replicate, IfOk};
     ghost use Rattle.format.specs.Kinds.{instr_number, term_number};
     ghost use Rattle.ir.specs.Types.{as_type};
-    ghost use Rattle.lower_walk.specs.Log.{counted};
-    ghost use Rattle.lower_walk.specs.Stmts.{with_log, switch_to, three_blocks};
+    ghost use Rattle.lower_walk.specs.Stmts.{taken, closed, switch_to, three_blocks, new_local};
     ghost use Rattle.lower_walk.specs.Grown.{Grown};
     ghost use Rattle.lower_walk.specs.Layout.{new_ctx, slice};
-    ghost use Rattle.lower_state.specs.Answers.{with_state};
+    ghost use Rattle.lower_state.specs.Answers.{with_state, KeptIfErr};
     ghost use Rattle.lower_state.specs.Bytes.{part_in, no_part, first_number, record_bytes, ids_of};
-    ghost use Rattle.lower_state.specs.State.{appended, blocks_of, BlocksMade, closed, new_local, BlockWithin};
+    ghost use Rattle.lower_state.specs.State.{appended, blocks_of, BlocksMade, BlockWithin};
 
     #[tactic(auto, unfolding(lower_walk::specs::Layout::new_ctx))]
     pub fn new(function: FunctionId) -> FnCtx
@@ -101,7 +86,7 @@ impl FnCtx {
             current,
             ended: false,
             to: Some(0),
-            log: [0; MOST],
+            log: [0; MOST_BYTES],
             locals: [IrType::U64; MOST_LOCALS],
             spans: [Span { start: 0, stop: 0 }; MOST_BLOCKS],
         }
@@ -123,7 +108,7 @@ impl FnCtx {
 
     pub fn next_value(&mut self) -> ValueId
         ensures number { result.0 ≡ self.old.log.value }
-        ensures counted { self.new ≡ with_log (counted (suc self.old.log.value % 65536) self.old.log) self.old }
+        ensures counted { self.new ≡ taken self.old }
     {
         self.counters.next_value()
     }
@@ -134,7 +119,7 @@ impl FnCtx {
         ensures is { with_state blocks_of self.new result ≡ three_blocks self.old }
         ensures among { IfOk result (λ blocks. BlocksMade self.new blocks) }
         ensures grown { Grown self.old self.new }
-        ensures refused { IfErr result (λ e. self.new ≡ self.old) }
+        ensures refused { KeptIfErr result self.old self.new }
     {
         if MOST_BLOCKS - 3 < self.counters.block as usize {
             return Err(LoweringError::TooManyBlocksOrLocals(self.function));
@@ -152,7 +137,7 @@ impl FnCtx {
     // A local, unless it would be the 257th.
     pub fn new_local(&mut self, ty: IrType) -> Result<LocalId, LoweringError>
         ensures is { with_state (λ l. l.0) self.new result ≡ new_local (as_type ty) self.old }
-        ensures refused { IfErr result (λ e. self.new ≡ self.old) }
+        ensures refused { KeptIfErr result self.old self.new }
     {
         if MOST_LOCALS <= self.counters.local as usize {
             return Err(LoweringError::TooManyBlocksOrLocals(self.function));
@@ -173,7 +158,7 @@ impl FnCtx {
     )
         ensures { self.new ≡ appended (record_bytes (instr_number kind) (first_number value) (part_in a) (part_in b) (part_in c) []) self.old }
     {
-        self.append_record(instr_number(kind), id_or_absent(value), a, b, c, &[]);
+        self.append_record(kind as u16, id_or_absent(value), a, b, c, &[]);
     }
 
     // One that ends in ids.
@@ -188,21 +173,14 @@ impl FnCtx {
         requires { length ids.now ≤ 16 }
         ensures { self.new ≡ appended (record_bytes (instr_number kind) (first_number value) (part_in a) (part_in b) no_part (ids_of ids.now)) self.old }
     {
-        self.append_record(
-            instr_number(kind),
-            id_or_absent(value),
-            a,
-            b,
-            Part::NOTHING,
-            ids,
-        );
+        self.append_record(kind as u16, id_or_absent(value), a, b, Part::NOTHING, ids);
     }
 
     // A terminator's record, with the id that it starts with.
     pub fn append_terminator(&mut self, kind: kinds::Terminator, first: u16, a: Part, b: Part)
         ensures { self.new ≡ appended (record_bytes (term_number kind) first (part_in a) (part_in b) no_part []) self.old }
     {
-        self.append_record(term_number(kind), first, a, b, Part::NOTHING, &[]);
+        self.append_record(kind as u16, first, a, b, Part::NOTHING, &[]);
     }
 
     fn append_record(&mut self, kind: u16, first: u16, a: Part, b: Part, c: Part, ids: &[ValueId])

@@ -1,7 +1,7 @@
 // What lowering keeps of a function under way, and why it refuses.
 #![tactic(auto)]
 
-use format::MOST;
+use format::MOST_BYTES;
 
 pub mod ctx; // a function under way
 mod part; // a part of a record
@@ -19,7 +19,7 @@ pub const MOST_BLOCKS: usize = 256;
 pub const MOST_LOCALS: usize = 256;
 
 // The records of all blocks of a function, in the order of the walk.
-type Log = [u8; MOST];
+type Log = [u8; MOST_BYTES];
 
 // The number of a span for a place of the log that is over the room. Not None: the state of the walk, which a clause sees, has numbers.
-const LOST: usize = MOST + 1;
+const LOST: usize = MOST_BYTES + 1;

@@ -1,6 +1,8 @@
 // A part of a record.
 ghost use Rattle.std.specs.Prelude.{◌≤◌};
 
+use format::{ID, TYPE, WORD};
+
 // A number in so many bytes. A record has three, and no array of them: with what fills it up at each call, the calls read no plainer.
 #[derive(Clone, Copy, Debug)]
 pub struct Part {
@@ -18,12 +20,12 @@ impl Part {
         number: 0,
     };
 
-    // An id.
+    // An id or a name, or what a ContextRead reads.
     pub fn id(number: u16) -> Part
         ensures { part_in result ≡ (2, number) }
     {
         Part {
-            width: 2,
+            width: ID,
             number: number as usize,
         }
     }
@@ -32,13 +34,19 @@ impl Part {
     pub fn four(number: usize) -> Part
         ensures { part_in result ≡ (4, number) }
     {
-        Part { width: 4, number }
+        Part {
+            width: TYPE,
+            number,
+        }
     }
 
-    // A number of a contract.
+    // A number of a contract, or an offset.
     pub fn eight(number: usize) -> Part
         ensures { part_in result ≡ (8, number) }
     {
-        Part { width: 8, number }
+        Part {
+            width: WORD,
+            number,
+        }
     }
 }

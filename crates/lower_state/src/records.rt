@@ -4,7 +4,7 @@ ghost use Rattle.definitions.specs.Fields.{bytes};
 ghost use Rattle.lower_state.specs.Bytes.{part_in, first_number, record_bytes, id_bytes, ids_of, Put, Added};
 
 use crate::{Log, Part};
-use format::{ABSENT, ID, LENGTH_BYTES, MOST, program};
+use format::{ABSENT, ID, KIND_BYTES, LENGTH_BYTES, MOST_BYTES, program};
 use ir::ValueId;
 
 // An id, or what stands for none.
@@ -55,11 +55,11 @@ pub(crate) fn put_record(
     ensures { Added log.old at (record_bytes kind first (part_in a) (part_in b) (part_in c) (ids_of ids.now)) log.new result }
 {
     let size = program::OWN + a.width + b.width + c.width + ID * ids.len();
-    if MOST - size < at {
+    if MOST_BYTES - size < at {
         return None;
     }
     let to = put(log, at, LENGTH_BYTES, size);
-    let to = put(log, to, 2, kind as usize);
+    let to = put(log, to, KIND_BYTES, kind as usize);
     let to = put(log, to, program::ORIGIN, 0);
     let to = put(log, to, ID, first as usize);
     let to = put(log, to, a.width, a.number);

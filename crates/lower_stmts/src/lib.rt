@@ -11,7 +11,7 @@ ghost use Rattle.lower_walk.specs.Stmts.{walk_stmts};
 ghost use Rattle.lower_walk.specs.Grown.{Grown};
 ghost use Rattle.lower_state.specs.Answers.{done_after};
 ghost use Rattle.lower_simple.specs.Stated.{stated, stmt_on};
-ghost use Rattle.lower_stmts.specs.Bodies.{HasRoom, OneSheet, if_nodes, while_of, for_of, Extends};
+ghost use Rattle.lower_stmts.specs.Bodies.{HasRoom, OneSheet, if_nodes, while_nodes, for_nodes, Extends};
 
 use contract_nodes::{Expr, Stmt, StmtNode, Stmts};
 use ir::{IrType, Name};
@@ -31,13 +31,13 @@ fn lower_body(ctx: &mut FnCtx, scopes: &mut Scopes, body: Stmts) -> Result<(), L
     let mark = scopes.len();
     scopes.push_scope();
     let done = lower_stmts(ctx, scopes, body);
-    scopes.pop_scope(mark);
+    scopes.pop_scope(mark); // also behind a refusal
     done
 }
 
 // If: the condition, then both arms. An arm that is absent is one without statements.
 #[cycle(stmts)]
-#[tactic(auto, unfolding(crate::specs::Bodies::if_on))]
+#[tactic(auto, unfolding(lower_walk::specs::Stmts::walk_if))]
 fn lower_if(
     ctx: &mut FnCtx,
     scopes: &mut Scopes,
@@ -71,7 +71,7 @@ fn lower_while(
 ) -> Result<(), LoweringError>
     requires room { HasRoom ctx.old scopes.old (suc body.depth) }
     requires one_sheet { OneSheet condition body }
-    ensures is { (p q : ℕ) → stated ctx.new scopes.old result ≡ stmt_on condition.entry.contract scopes.old (while_of p q condition.entry body.entry) ctx.old }
+    ensures is { (p q : ℕ) → stated ctx.new scopes.old result ≡ while_nodes p q condition.entry body.entry scopes.old ctx.old }
     ensures same_names { scopes.new ≡ scopes.old }
     ensures grown { Grown ctx.old ctx.new }
 {
@@ -94,18 +94,17 @@ fn lower_for(
 ) -> Result<(), LoweringError>
     requires room { HasRoom ctx.old scopes.old (suc body.depth) }
     requires one_sheet { (end.contract.sheet.now ≡ start.contract.sheet.now) × OneSheet start body }
-    ensures is { (p q : ℕ) → stated ctx.new scopes.old result
-        ≡ stmt_on start.entry.contract scopes.old (for_of p q name.0 start.entry end.entry body.entry) ctx.old }
+    ensures is { (p q : ℕ) → stated ctx.new scopes.old result ≡ for_nodes p q name.0 start.entry end.entry body.entry scopes.old ctx.old }
     ensures same_names { scopes.new ≡ scopes.old }
     ensures grown { Grown ctx.old ctx.new }
 {
     let bounds = for_locals(ctx, scopes, start, end)?;
     let blocks = for_blocks(ctx, bounds)?;
-    let before = scopes.len();
+    let mark = scopes.len();
     scopes.push_scope();
     scopes.declare(name, bounds.var, IrType::U64);
     let done = lower_stmts(ctx, scopes, body);
-    scopes.pop_scope(before);
+    scopes.pop_scope(mark);
     done?;
     leave_for(ctx, bounds.var, blocks);
     Ok(())
@@ -136,7 +135,7 @@ fn lower_stmt(ctx: &mut FnCtx, scopes: &mut Scopes, t: Stmt) -> Result<(), Lower
         StmtNode::While(condition, body) => lower_while(ctx, scopes, condition, body),
         StmtNode::For(name, start, end, body) => lower_for(ctx, scopes, name, start, end, body),
         StmtNode::Return(value) => lower_simple::lower_return(ctx, scopes, value),
-        StmtNode::Emit(event, args) => lower_simple::lower_emit(ctx, scopes, event, args),
+        StmtNode::Emit(event, args) => lower_simple::lower_emit_stmt(ctx, scopes, event, args),
         StmtNode::Expr(e) => lower_simple::lower_expr_stmt(ctx, scopes, e),
     }
 }

@@ -1,8 +1,6 @@
 -- The code's answers in the words of the walk. Assumes nothing: these are definitions.
-use Rattle.std.specs.Prelude.{ℕ, ◌≡◌}
+use Rattle.std.specs.Prelude.{◌≡◌}
 use Rattle.std.proofs.Math.Option.{Option, some}
-use Rattle.definitions.specs.Ast.{BinOp}
-use Rattle.definitions.specs.Ir.{IrType, Instruction, binary_type}
 use Rattle.definitions.specs.Lower.{Value}
 use Rattle.format.specs.Contexts.{context_number}
 use Rattle.ir.specs.Types.{as_type}
@@ -10,9 +8,9 @@ use Rattle.ir.specs.declared.IrType as code
 use Rattle.ir.specs.declared.ValueId.{ValueId}
 use Rattle.lower_walk.specs.Log.{Log}
 use Rattle.lower_walk.specs.Stmts.{LogCtx, with_log}
-use Rattle.lower_walk.specs.Exprs.{Walked, push_value, Called, context, poseidon_call, user_call}
-use Rattle.lower_values.specs.declared.calls.Callee.{Callee}
-use Rattle.lower_values.specs.declared.calls.Callee.TheVariants as callee
+use Rattle.lower_walk.specs.Exprs.{Walked, Called, context, poseidon_call, user_call}
+use Rattle.lower_values.specs.declared.calls.Called as calls
+use Rattle.lower_values.specs.declared.calls.Called.TheVariants as called
 
 abbrev pub value_in : ValueId × code.IrType → Value
 value_in v = (v.0.0, as_type v.1)
@@ -24,16 +22,12 @@ some_value v = some (value_in v)
 abbrev pub gives_value : Log → ValueId × code.IrType → Walked
 gives_value l v = (l, some_value v)
 
--- the value of an operator on two values, the left of type t
-abbrev pub push_binary : BinOp → IrType → (l r : ℕ) → Log → Walked
-push_binary op t l r c = push_value (Instruction.Binary op t l r) (binary_type op t) c
-
 -- the log alone has changed
 abbrev pub LogAlone : LogCtx → LogCtx → Type 0
 LogAlone c d = d ≡ with_log d.log c
 
 -- what a name stands for in a call
-abbrev pub called_of : Callee → Called
-called_of (callee.Context k) = context (context_number k)
-called_of callee.Poseidon = poseidon_call
-called_of (callee.User f t) = user_call f.0 (as_type t)
+abbrev pub called_of : calls.Called → Called
+called_of (called.Context k) = context (context_number k)
+called_of called.Poseidon = poseidon_call
+called_of (called.User f t) = user_call f.0 (as_type t)

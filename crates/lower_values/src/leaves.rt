@@ -1,14 +1,14 @@
 // Expressions without expressions in them, and what is done with values.
-ghost use Rattle.std.specs.Prelude.{◌≡◌, IfErr};
+ghost use Rattle.std.specs.Prelude.{◌≡◌};
 ghost use Rattle.definitions.specs.ContractSheet.{op_of};
 ghost use Rattle.definitions.specs.Ir as defs;
 ghost use Rattle.definitions.specs.Ir.{Instruction, binary_type};
 ghost use Rattle.format.specs.Operators.{operator_number};
 ghost use Rattle.ir.specs.Types.{as_type};
 ghost use Rattle.contract_nodes.specs.Nodes.{contract_in};
-ghost use Rattle.lower_walk.specs.Exprs.{push_value, walk_ident, walk_storage_read, walk_field};
-ghost use Rattle.lower_state.specs.Answers.{with_state};
-ghost use Rattle.lower_values.specs.Values.{some_value, gives_value, push_binary, LogAlone};
+ghost use Rattle.lower_walk.specs.Exprs.{push_value, push_binary, walk_ident, walk_storage_read, walk_field};
+ghost use Rattle.lower_state.specs.Answers.{with_state, KeptIfErr};
+ghost use Rattle.lower_values.specs.Values.{some_value, gives_value, LogAlone};
 
 use crate::Value;
 use contract_lookup::symbols::storage_slot;
@@ -34,7 +34,7 @@ pub fn lower_int(ctx: &mut FnCtx, number: usize) -> Value
 pub fn lower_ident(ctx: &mut FnCtx, scopes: &Scopes, name: Name) -> Result<Value, LoweringError>
     ensures is { with_state some_value ctx.new.log result ≡ walk_ident scopes.now.held name.0 ctx.old.log }
     ensures log_alone { LogAlone ctx.old ctx.new }
-    ensures refused { IfErr result (λ e. ctx.new ≡ ctx.old) }
+    ensures refused { KeptIfErr result ctx.old ctx.new }
 {
     let (local, ty) = scopes
         .lookup(name)
@@ -51,7 +51,7 @@ pub fn lower_storage_read(
 ) -> Result<Value, LoweringError>
     ensures is { with_state some_value ctx.new.log result ≡ walk_storage_read (contract_in contract.entry) name.0 ctx.old.log }
     ensures log_alone { LogAlone ctx.old ctx.new }
-    ensures refused { IfErr result (λ e. ctx.new ≡ ctx.old) }
+    ensures refused { KeptIfErr result ctx.old ctx.new }
 {
     let slot = storage_slot(contract, name).ok_or(LoweringError::UndefinedVariable(name))?;
     Ok((emit_state_read(ctx, slot), IrType::U64))
@@ -68,7 +68,7 @@ pub fn lower_field(
 ) -> Result<Value, LoweringError>
     ensures is { with_state some_value ctx.new.log result ≡ walk_field (contract_in contract.entry) field.0 base.0 (as_type ty) ctx.old.log }
     ensures log_alone { LogAlone ctx.old ctx.new }
-    ensures refused { IfErr result (λ e. ctx.new ≡ ctx.old) }
+    ensures refused { KeptIfErr result ctx.old ctx.new }
 {
     let offset = field_offset(contract, ty, field)?;
     Ok((emit_load(ctx, base, offset), IrType::U64))

@@ -1,5 +1,5 @@
 -- A function's walk refuses what its lowering refuses; else its log gives the lowered function's record, or that is longer than the room. Assumes nothing.
-use Prim.Native.Nat.{ℕ, suc, ◌%◌, ◌≤◌, ◌<◌}
+use Prim.Native.Nat.{ℕ, suc, ◌≤◌, ◌<◌}
 use mathlib.Core.Path.{◌≡◌, refl, sym, ◌∙◌, subst}
 use mathlib.Core.List.{List, [], ◌∷◌}
 use mathlib.Core.Option.{none}
@@ -16,9 +16,8 @@ use Rattle.definitions.specs.Records.{write_tree, write_trees}
 use Rattle.definitions.specs.ProgramSheet.{ir_function_tree}
 use Rattle.definitions.proofs.Runs.Safe.{in_nil, in_one}
 use Rattle.definitions.proofs.Runs.Blocks.{only}
-use Rattle.lower_walk.specs.Log.{counted}
 use Rattle.lower_walk.specs.Held.{Held}
-use Rattle.lower_walk.specs.Stmts.{LogCtx, with_log}
+use Rattle.lower_walk.specs.Stmts.{LogCtx, taken}
 use Rattle.lower_walk.specs.Layout.{new_ctx, walk_params, param_values, walk_function, function_bytes}
 use Rattle.lower_walk.proofs.Parts.{opened, Parts}
 use Rattle.lower_walk.proofs.Prims.{true_false}
@@ -30,9 +29,9 @@ use Rattle.lower_walk.proofs.Laid.{function_is, log_least, part_inside}
 
 -- ---- parameters
 -- a value without a record
-take_now : {Q : List ℕ} {t : Scope} {up : List Scope} {g : Bool} {c : FnCtx} {d : LogCtx} → Now 0 Q t up false g c d → Now 1 Q t up false g (fresh_value c) (with_log (counted (suc d.log.value % 65536) d.log) d)
+take_now : {Q : List ℕ} {t : Scope} {up : List Scope} {g : Bool} {c : FnCtx} {d : LogCtx} → Now 0 Q t up false g c d → Now 1 Q t up false g (fresh_value c) (taken d)
 unfolding fresh_value
-take_now (now fid cur count v ls bs l k (whole val len low small P)) = now fid cur count (suc v) ls bs (counted (suc l.value % 65536) l) k (whole (rw val (omega arith)) len low (omega arith) P)
+take_now (now fid cur count v ls bs l k (whole val len low small P)) = now fid cur count (suc v) ls bs _ k (whole (rw val (omega arith)) len low (omega arith) P)
 take_now (now fid cur count v ls bs l k (over high u h long P)) = now fid cur count (suc v) ls bs _ k (over high u h long P)
 
 params_same : {C D : Type 0} {R : C → D → Type 0} (ps : List Param) {Q : List ℕ} {t : Scope} {g : Bool} {c : FnCtx} {d : LogCtx} (h : FnCtx × List Value → Lowering C) (h' : LogCtx × Held → Lowering D) → Now 0 Q t [] false g c d

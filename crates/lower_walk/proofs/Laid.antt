@@ -14,7 +14,7 @@ use Rattle.definitions.specs.Ast.{Function}
 use Rattle.definitions.specs.Ir.{IrType, BasicBlock, IrFunction, find}
 use Rattle.definitions.specs.Lower.{FnCtx, ir_function}
 use Rattle.definitions.specs.Verify.{block_ids}
-use Rattle.definitions.specs.Records.{tnil, treesOf, write_item, write_value, write_values, write_record, write_tree, write_trees}
+use Rattle.definitions.specs.Records.{tnil, trees_of, write_item, write_value, write_values, write_record, write_tree, write_trees}
 use Rattle.definitions.specs.ProgramSheet.{block_tree, ir_function_tree}
 use Rattle.definitions.proofs.Results.{by_test}
 use Rattle.definitions.proofs.Runs.Safe.{find_hit, find_miss, in_nil}
@@ -33,7 +33,7 @@ block_is : (log : List ℕ) (b : BasicBlock) (k a z : ℕ) → b.id ≡ k → sl
 unfolding write_tree write_values write_value write_item block_bytes
 block_is log b k a z e h = rw (h, e) (ap (λ (x : List ℕ). write_record 53 (x ++ written b)) (append-nil (bytes 2 k)))
 
-blocks_are : (log starts stops : List ℕ) (k n : ℕ) (bs : List BasicBlock) → block_ids bs ≡ up_from k n → ((j : ℕ) (b : BasicBlock) → k ≤ j → find j bs ≡ some b → slice log (get_or starts j 0) (get_or stops j 0) ≡ written b) → write_trees (treesOf block_tree bs tnil) ≡ blocks_bytes log starts stops k n
+blocks_are : (log starts stops : List ℕ) (k n : ℕ) (bs : List BasicBlock) → block_ids bs ≡ up_from k n → ((j : ℕ) (b : BasicBlock) → k ≤ j → find j bs ≡ some b → slice log (get_or starts j 0) (get_or stops j 0) ≡ written b) → write_trees (trees_of block_tree bs tnil) ≡ blocks_bytes log starts stops k n
 unfolding write_trees blocks_bytes
 blocks_are log starts stops k zero [] e h = refl
 blocks_are log starts stops k (suc n) [] e h = absurd (let z : ◌≡◌ {A = ℕ} 0 1 = cc in omega arith)
@@ -50,7 +50,7 @@ unfolding write_tree function_bytes
 function_is i f c d e P = ap₂ (λ (ls : List IrType) (x : List ℕ). write_record 51 (head_bytes i f ls ++ x)) e (blocks_are d.log.bytes d.starts d.stops 0 d.next_block c.blocks P.ids (λ j b le h. slice_is (P.each j b h (λ q. in_nil q) (λ q. refl))))
 
 -- a function's record is no shorter than its log
-weight_least : (bs : List BasicBlock) → weight bs ≤ length (write_trees (treesOf block_tree bs tnil))
+weight_least : (bs : List BasicBlock) → weight bs ≤ length (write_trees (trees_of block_tree bs tnil))
 unfolding write_tree write_record
 weight_least [] = omega arith
 weight_least (b ∷ bs) = simp length-append (omega (arith, weight_least bs))

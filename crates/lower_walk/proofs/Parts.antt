@@ -11,7 +11,7 @@ use borrow.Author.Tests.{eq-eqb, ne_eqb}
 use Rattle.definitions.specs.Ir.{Terminator, InstrNode, BasicBlock, find, update}
 use Rattle.definitions.specs.Lower.{empty_block, add_instr, put_terminator, is_terminated}
 use Rattle.definitions.specs.Verify.{block_ids}
-use Rattle.definitions.specs.Records.{write_tree, write_trees, treesOf}
+use Rattle.definitions.specs.Records.{write_tree, write_trees, trees_of}
 use Rattle.definitions.specs.ProgramSheet.{instr_tree, term_tree, opt_term_tree}
 use Rattle.definitions.proofs.Results.{by_test}
 use Rattle.definitions.proofs.Runs.Safe.{In, find_hit, find_miss}
@@ -25,7 +25,7 @@ pub record Marks : Type 0 where
 
 -- the bytes of a block behind its head
 abbrev pub written : BasicBlock → List ℕ
-written b = write_trees (treesOf instr_tree b.instrs (opt_term_tree b.terminator))
+written b = write_trees (trees_of instr_tree b.instrs (opt_term_tree b.terminator))
 
 abbrev pub weight : List BasicBlock → ℕ
 weight [] = 0

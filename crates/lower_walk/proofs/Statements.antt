@@ -11,7 +11,7 @@ use Rattle.definitions.specs.Ast.{OptExpr, absent, present, Stmt, Stmts, snil, s
 use Rattle.definitions.specs.Ir.{IrType, Instruction, Terminator}
 use Rattle.definitions.specs.Lower.{LoweringError, FnCtx, Scope, storage_named, push_instr, current_block_terminated, unless_terminated, lower_return, lower_body, lower_stmt, lower_stmts, lower_else}
 use Rattle.lower_walk.specs.Held.{Held}
-use Rattle.lower_walk.specs.Stmts.{LogCtx, push_c, next_arm, enter_if, while_header, enter_while, two_locals, for_locals, for_blocks, walk_return, walk_stmt, walk_stmts, walk_else}
+use Rattle.lower_walk.specs.Stmts.{LogCtx, push_c, next_arm, enter_if, walk_if, while_header, enter_while, two_locals, for_locals, for_blocks, walk_return, walk_stmt, walk_stmts, walk_else}
 use Rattle.lower_walk.proofs.Tied.{then, same, Now, ended_now, push_now, term_now, turn_now, enter, define_now, leave}
 use Rattle.lower_walk.proofs.Related.{Rel, bad, nested, bind, bind_o, bind_l, joined, el_is, bind_v, bind_e}
 use Rattle.lower_walk.proofs.Expressions.{expr_same, args_same, exprv_same}
@@ -40,7 +40,7 @@ return_same K (present x) N =
 
 module _ (K : Contract) where
   mutual
-    unfolding lower_stmt walk_stmt lower_body enter_if enter_while while_header for_locals two_locals for_blocks next_arm unless_terminated
+    unfolding lower_stmt walk_stmt lower_body enter_if walk_if enter_while while_header for_locals two_locals for_blocks next_arm unless_terminated
 
     pub stmt_same : (x : Stmt) {Q : List ℕ} {t : Scope} {up : List Scope} {c : FnCtx} {d : LogCtx} {g : Bool} → Now 0 Q t up false g c d → Rel (Stated Q up) (lower_stmt K x c) (walk_stmt K (length up) (joined (t ∷ up)) x d)
     stmt_same (Stmt.Let p j x) N =
@@ -82,7 +82,7 @@ module _ (K : Contract) where
         init_same _ _ (omega arith) IrType.U64 (λ q. e' (le q)) N λ c d j g le s N.
         three_same _ _ N λ c d a b z N.
         then (term_now (same (Terminator.Jump a)) N) λ g le N.
-        then (header_now (record { loop = i; end = j }) b z (turn_now N)) λ g le N.
+        then (header_now (record { var = i; end = j }) b z (turn_now N)) λ g le N.
         bind _ _ (stmts_same body (enter ((var, i, IrType.U64) ∷ []) (turn_now N))) λ c d B.
         then (step_now i a (leave B.now)) λ g le N.
         stated (turn_now N))

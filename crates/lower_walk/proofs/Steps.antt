@@ -83,10 +83,10 @@ module _ {Q : List ℕ} {t : Scope} {up : List Scope} where
   unfolding Lower.terminate_if_open terminate_if_open
   close_now y N = if_open N (λ N. term_now (same y) N)
 
-  pub header_now : (i : Bounds) (body exit : ℕ) {g : Bool} {c : FnCtx} {d : LogCtx} → Now 0 Q t up false g c d → After g (λ g. Now 0 Q t up true g (Lower.for_header i.loop i.end body exit c) (for_header i body exit d))
+  pub header_now : (i : Bounds) (body exit : ℕ) {g : Bool} {c : FnCtx} {d : LogCtx} → Now 0 Q t up false g c d → After g (λ g. Now 0 Q t up true g (Lower.for_header i.var i.end body exit c) (for_header i body exit d))
   unfolding Lower.for_header for_header
   header_now i body exit N =
-      then (push_now (omega arith) (same (Instruction.ReadLocal i.loop IrType.U64)) N) λ g₁ le₁ N₁.
+      then (push_now (omega arith) (same (Instruction.ReadLocal i.var IrType.U64)) N) λ g₁ le₁ N₁.
       then (push_now (omega arith) (same (Instruction.ReadLocal i.end IrType.U64)) N₁) λ g₂ le₂ N₂.
       then (push_now (omega arith) (λ q. ap₂ (Instruction.Binary BinOp.Lt IrType.U64) (value_is N (le₁ (le₂ q))) (value_is N₁ (le₂ q))) N₂) λ g₃ le₃ N₃.
       then (term_now (λ q. ap (λ (v : ℕ). Terminator.Branch v body exit) (value_is N₂ (le₃ q))) N₃) λ g₄ le₄ N₄.

@@ -15,7 +15,7 @@ use Rattle.definitions.specs.Records.{write_tree}
 use Rattle.definitions.specs.ProgramSheet.{instr_tree, term_tree}
 use Rattle.definitions.proofs.Results.{by_test}
 use Rattle.definitions.proofs.Sheets.Trees.{tree_long}
-use Rattle.lower_walk.specs.Log.{room, Log, append, next_value, counted, log_instr, close}
+use Rattle.lower_walk.specs.Log.{room, Log, append, next_value, counted, log_instr, log_term}
 use Rattle.lower_walk.specs.Stmts.{LogCtx, push_c, terminate, switch_to}
 use Rattle.lower_walk.proofs.Parts.{Marks, Parts}
 use Rattle.lower_walk.proofs.Prims.{stopped, started, true_false, push_parts, term_parts, turn_parts, ended_is}
@@ -101,7 +101,7 @@ module _ {Q : List ℕ} {t : Scope} {up : List Scope} where
 
   -- a terminator
   pub term_now : {f : Bool} {c : FnCtx} {d : LogCtx} {i j : Terminator} → (f ≡ false → i ≡ j) → Now 0 Q t up false f c d → After f (λ g. Now 0 Q t up true g (set_terminator i c) (terminate j d))
-  unfolding close set_terminator terminate
+  unfolding log_term set_terminator terminate
   term_now {f} {i = i} {j} same (now fid cur count v ls bs l k T) =
       then (subst (λ (r : Log). After f (Tied 0 true Q cur count v (update cur (put_terminator i) bs) r (stopped cur r.at k))) (same_value (write_tree (term_tree j)) l)
       (append_tied T true (update cur (put_terminator i) bs) v l.value (stopped cur) (write_tree (term_tree i)) (write_tree (term_tree j)) (λ val q. ap (λ (y : Terminator). write_tree (term_tree y)) (same q)) (λ out k a end P. term_parts i a end P) (λ q val small fits. (val, omega arith)))) λ g le T.

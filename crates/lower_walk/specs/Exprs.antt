@@ -2,7 +2,7 @@
 use Rattle.std.specs.Prelude.{ℕ, ◌*◌, List, [], ◌∷◌, true, false, eqb}
 use Rattle.std.proofs.Math.Option.{Option, none, some}
 use Rattle.definitions.specs.Result.{err, ok, ◌>>=◌, ok_or_else}
-use Rattle.definitions.specs.Ast.{Expr, Exprs, enil, econs, Contract}
+use Rattle.definitions.specs.Ast.{BinOp, Expr, Exprs, enil, econs, Contract}
 use Rattle.definitions.specs.Ir.{IrType, Instruction, binary_type, unless_void}
 use Rattle.definitions.specs.Lower.{LoweringError, Lowering, Value, Callee, context_fn, poseidon_fn, merkle_proof_fn, user_fn, callee, two_of, count, result_value, in_scope, struct_name_of, storage_named, struct_named, field_position}
 use Rattle.definitions.specs.Sema.{function_named}
@@ -45,6 +45,10 @@ walk_field K f base ty c = do
   offset ← field_offset K ty f
   ok (push_value (Instruction.Load IrType.U64 base offset) IrType.U64 c)
 
+-- an operator on two values, the left of type t
+abbrev pub push_binary : BinOp → IrType → (l r : ℕ) → Log → Walked
+push_binary op t l r c = push_value (Instruction.Binary op t l r) (binary_type op t) c
+
 -- a call of a function, its arguments' values being known
 unfoldable pub walk_user_call : ℕ → IrType → List ℕ → Log → Walked
 walk_user_call fid ty args c = (log_instr (Instruction.Call fid args ty) c, result_value (unless_void ty) c.value)
@@ -78,20 +82,21 @@ finish_call poseidon_call args c = do
   ok (push_value (Instruction.Poseidon lhs rhs) IrType.U64 c)
 finish_call (user_call f t) args c = ok (walk_user_call f t args c)
 
--- what is left of a call, once it is known what is called: its arguments, which a read of the context ignores, and the call itself
+-- the arguments of what is called, which a read of the context ignores
+abbrev pub arguments_of : Called → (Log → Lowering (Log × List ℕ)) → Log → Lowering (Log × List ℕ)
+arguments_of (context k) walk_arguments c = ok (c, [])
+arguments_of called walk_arguments c = walk_arguments c
+
+-- what is left of a call, once it is known what is called: its arguments, and the call itself
 abbrev pub with_arguments : Called → (Log → Lowering (Log × List ℕ)) → Log → Lowering Walked
-with_arguments (context k) walkArguments c = finish_call (context k) [] c
-with_arguments poseidon_call walkArguments c = do
-  (c, args) ← walkArguments c
-  finish_call poseidon_call args c
-with_arguments (user_call f t) walkArguments c = do
-  (c, args) ← walkArguments c
-  finish_call (user_call f t) args c
+with_arguments called walk_arguments c = do
+  (c, args) ← arguments_of called walk_arguments c
+  finish_call called args c
 
 unfoldable pub walk_call : Contract → ℕ → ℕ → (Log → Lowering (Log × List ℕ)) → Log → Lowering Walked
-walk_call K n many walkArguments c = do
+walk_call K n many walk_arguments c = do
   called ← resolve K n many
-  with_arguments called walkArguments c
+  with_arguments called walk_arguments c
 
 unfoldable mutual
   pub walk_expr : Contract → Held → Expr → Log → Lowering Walked
@@ -100,7 +105,7 @@ unfoldable mutual
   walk_expr K es (Expr.Binary p op l r) c = do
     (c, (lhs, ty)) ← walk_expr K es l c >>= need_value
     (c, (rhs, _)) ← walk_expr K es r c >>= need_value
-    ok (push_value (Instruction.Binary op ty lhs rhs) (binary_type op ty) c)
+    ok (push_binary op ty lhs rhs c)
   walk_expr K es (Expr.StorageRead p n) c = walk_storage_read K n c
   walk_expr K es (Expr.Call p n args) c = walk_call K n (count args) (λ d. walk_args K es args d) c
   walk_expr K es (Expr.FieldAccess p f e) c = do

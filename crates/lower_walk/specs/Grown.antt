@@ -1,4 +1,5 @@
--- What a function under way keeps, whatever becomes of it, also a refusal. Assumes nothing: these are definitions.
+-- How a step changes what a function under way has: what every step keeps, a refused one too, and that a step made a local. Assumes
+-- nothing: these are definitions.
 use Rattle.std.specs.Prelude.{◌≤◌, ◌<◌, ◌≡◌, length}
 use Rattle.lower_walk.specs.Stmts.{LogCtx}
 

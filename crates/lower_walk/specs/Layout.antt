@@ -1,5 +1,5 @@
 -- A function's walk, and its record from the log: each block's records behind the block's head, in the order of the ids. Untrusted: see Log.
-use Rattle.std.specs.Prelude.{ℕ, zero, suc, ◌-◌, ◌%◌, List, [], ◌∷◌, ◌++◌, map, false, get_or, take, drop, set}
+use Rattle.std.specs.Prelude.{ℕ, zero, suc, ◌-◌, List, [], ◌∷◌, ◌++◌, map, false, get_or, take, drop, set}
 use Rattle.std.proofs.Math.Option.{none}
 use Rattle.definitions.specs.Fields.{bytes}
 use Rattle.definitions.specs.Result.{ok, ◌>>=◌}
@@ -8,9 +8,8 @@ use Rattle.definitions.specs.Ir.{IrType, Terminator}
 use Rattle.definitions.specs.Records.{small, ty, item, group, write_values, write_record}
 use Rattle.definitions.specs.ProgramSheet.{param_item}
 use Rattle.definitions.specs.Lower.{Lowering, Value, parse_ir_type, own_return_type}
-use Rattle.lower_walk.specs.Log.{counted}
 use Rattle.lower_walk.specs.Held.{Held}
-use Rattle.lower_walk.specs.Stmts.{LogCtx, with_log, init_local, terminate_if_open, walk_stmts}
+use Rattle.lower_walk.specs.Stmts.{LogCtx, taken, init_local, terminate_if_open, walk_stmts}
 
 -- `FnCtx::new`; the arrays may hold anything before
 unfoldable pub new_ctx : ℕ → List ℕ → List ℕ → LogCtx
@@ -20,7 +19,7 @@ new_ctx i starts stops = record { fid = i; log = record { value = 0; at = 0; byt
 unfoldable pub walk_params : List Param → Held → LogCtx → Lowering (LogCtx × Held)
 walk_params [] es c = ok (c, es)
 walk_params (p ∷ ps) es c = do
-  (d, local) ← init_local (parse_ir_type p.ty) c.log.value (with_log (counted (suc c.log.value % 65536) c.log) c)
+  (d, local) ← init_local (parse_ir_type p.ty) c.log.value (taken c)
   walk_params ps (record { scope = 0; name = p.name; local = local; type = parse_ir_type p.ty } ∷ es) d
 
 unfoldable pub walk_function : Contract → ℕ → Function → List ℕ → List ℕ → Lowering LogCtx

@@ -35,8 +35,8 @@ unfoldable pub log_instr : Instruction → Log → Log
 log_instr i c = counted (next_value (result_type i) c.value) (append (write_tree (instr_tree (record { result = result_id (result_type i) c.value; instr = i }))) c)
 
 -- `set_terminator`
-unfoldable pub close : Terminator → Log → Log
-close t c = append (write_tree (term_tree t)) c
+unfoldable pub log_term : Terminator → Log → Log
+log_term t c = append (write_tree (term_tree t)) c
 
 -- one place stands for all that are over the room
 abbrev pub capped : ℕ → ℕ

@@ -31,6 +31,7 @@ fn flag(x: bool) -> u64
     u64::from(x)
 }
 
+// The quotient without its remainder, if there is one.
 #[tactic(auto, using(std::proofs::lemmas::Bool::Decides::nat_tests), unfolding(definitions::specs::Bench::binary_word))]
 fn quotient(a: u64, b: u64) -> Result<u64, ZeroDivisor>
     ensures { word_or_stop result ≡ binary_word ast.BinOp.Div a b }

@@ -6,9 +6,9 @@ ghost use Rattle.std.specs.Prelude.{◌≡◌, ◌+◌, ◌≤◌, length};
 ghost use Rattle.ir.specs.Answers.{option_of};
 ghost use Rattle.machine_memory.specs.Cells.{cell_width, cell, stored, emptied, cleared};
 
-// The bytes of a word, and of a cell.
-const WORD: usize = 8;
+use format::WORD;
 
+// The bytes of a cell: a word, and the mark behind it.
 pub const CELL: usize = WORD + 1;
 
 // The word of the cell at a place, if it is set.

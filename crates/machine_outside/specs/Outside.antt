@@ -52,13 +52,13 @@ pub record ReadsState (state : List ℕ) (slot : ℕ) (r : Result ℕ Halt) : Ty
 abbrev pub context_of : ContextKind → Context → ℕ
 context_of kind.MsgSender c = c.sender
 context_of kind.MsgNonce c = c.nonce
-context_of kind.BlockNumber c = c.height
+context_of kind.BlockNumber c = c.block_number
 
 -- these are the context words that are lent
 pub record LendsContext (c : Context) (lent : Lent) : Type 0 where
   pub sender_is : lent.sender ≡ c.sender
   pub nonce_is : lent.nonce ≡ c.nonce
-  pub height_is : lent.block_number ≡ c.height
+  pub block_number_is : lent.block_number ≡ c.block_number
 
 -- the ContextRead of a kind
 pub record DoesContext (t : Frame) (before after : List ℕ) (c : Context) (o : maths.Option ℕ) (k : ℕ) : Type 0 where

@@ -31,7 +31,7 @@ impl Iterator for Outside<'_> {
 pub struct Context {
     pub sender: u64,
     pub nonce: u64,
-    pub height: u64,
+    pub block_number: u64,
 }
 
 impl Context {
@@ -42,7 +42,7 @@ impl Context {
         match kind {
             ContextKind::MsgSender => self.sender,
             ContextKind::MsgNonce => self.nonce,
-            ContextKind::BlockNumber => self.height,
+            ContextKind::BlockNumber => self.block_number,
         }
     }
 }

@@ -87,7 +87,7 @@ pub fn step_load(
     base: ValueId,
 ) -> Result<(), Halt>
     requires { Given (length memory.old) frame.now (id_of to) }
-    ensures does { (t : IrType) (o : ℕ) → DoesTaking frame.now memory.old memory.new outside.old outside.new (id_of to) (Instruction.Load t base.0 o) result }
+    ensures does { (t : IrType) (n : ℕ) → DoesTaking frame.now memory.old memory.new outside.old outside.new (id_of to) (Instruction.Load t base.0 n) result }
     ensures uses { Uses outside.old outside.new result }
 {
     let _word = frame.value(memory, base).ok_or(Halt::Unset)?;

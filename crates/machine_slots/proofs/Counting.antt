@@ -9,7 +9,8 @@ use Rattle.definitions.specs.Fields.{le}
 use Rattle.definitions.specs.Records.{opt_from}
 use Rattle.definitions.proofs.Sheets.Reads.{items_count}
 use Rattle.program_nodes.specs.Offsets.{param_count_at, fields_at}
-use Rattle.program_nodes.specs.Positions.{stop_here, instrs_here, blocks_here, params_here, BlockFrom, BlocksFrom}
+use Rattle.sheet.specs.Passed.{stop_of}
+use Rattle.program_nodes.specs.Positions.{instrs_here, blocks_here, params_here, BlockFrom, BlocksFrom}
 use Rattle.program_nodes.specs.Nodes.{ir_of}
 use Rattle.program_nodes.specs.declared.program.Function.{Function}
 use Rattle.program_nodes.proofs.Walk.{at_record, at_end, at_instr, at_term, instrs_step, instrs_term, instrs_end, at_blocks, no_block_lem, at_block, blocks_step, blocks_end}
@@ -50,7 +51,7 @@ blocks_low (suc n) {s} {b} {end} f h =
       | no_block_lem e ↦ rw (ap blocks_results (blocks_end s e)) (omega arith)
       | at_block B ↦
           let k = blocks_low n B.next (omega (arith, B.low)) in
-          let r = results_low (stop_here s b) B.records (omega arith) in
+          let r = results_low (stop_of s b) B.records (omega arith) in
           rw (ap blocks_results (blocks_step B), length-append) (omega (arith, k, r))
     ]
 

@@ -11,7 +11,7 @@ use Rattle.definitions.specs.Ir.{InstrNode, BasicBlock, IrFunction}
 use Rattle.definitions.specs.Records.{pick}
 use Rattle.definitions.specs.Bench.{result_ids, result_ids_in, bytes_for}
 use Rattle.definitions.proofs.Results.{by_test}
-use Rattle.machine_slots.specs.Slots.{id_or_none, block_results, blocks_results, value_ids, index_of, Among, above, slot_for}
+use Rattle.machine_slots.specs.Slots.{id_or_none, block_results, blocks_results, value_ids, index_of, Among, above, above_all, slot_for}
 
 -- POSITIONS
 pub index_high : (v : ℕ) (ids : List ℕ) → index_of v ids ≤ length ids
@@ -70,14 +70,14 @@ below_above v (x ∷ xs) m h =
 pub slot_low : (ids : List ℕ) (v : ℕ) → Among v ids → slot_for ids v < length ids
 unfolding slot_for
 slot_low ids v h =
-    by_test (leb (above ids 0) (length ids))
-    (λ q. rw (q, slot_for) (omega (arith, below_above v ids 0 h, leb-true (above ids 0) (length ids) q)))
+    by_test (leb (above_all ids) (length ids))
+    (λ q. rw (q, slot_for) (omega (arith, below_above v ids 0 h, leb-true (above_all ids) (length ids) q)))
     (λ q. rw (q, slot_for) h)
 
 pub slot_one : (ids : List ℕ) (v u : ℕ) → slot_for ids v < length ids → slot_for ids v ≡ slot_for ids u → v ≡ u
 unfolding slot_for
 slot_one ids v u =
-    by_test (leb (above ids 0) (length ids))
+    by_test (leb (above_all ids) (length ids))
     (λ q. rw (q, slot_for) (λ h e. e))
     (λ q. rw (q, slot_for) (λ h e. sym (index_at v ids h) ∙ (ap (λ (i : ℕ). get_or ids i 0) e ∙ index_at u ids (rw e at h))))
 

@@ -71,8 +71,12 @@ searched i (x ∷ xs) v = pick (is_it x v) (code.Err i.count) (searched (with_on
 
 -- THE SLOT of a value: where the ids are dense, all below their count, it is the id itself, and else its position
 unfoldable pub slot_for : List ℕ → ℕ → ℕ
-slot_for ids v = pick (leb (above ids 0) (length ids)) v (index_of v ids)
+slot_for ids v = pick (leb (above_all ids) (length ids)) v (index_of v ids)
 
 -- i of n, if there are so many
 abbrev pub one_of : (n i : ℕ) → Option ℕ
 one_of n i = pick (ltb i n) (some i) none
+
+-- the slot of v, if it has one: where the ids are dense, each number below their count has one, and else only what is among them
+abbrev pub slot_in : List ℕ → ℕ → Option ℕ
+slot_in ids v = one_of (length ids) (slot_for ids v)

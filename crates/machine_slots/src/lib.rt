@@ -1,10 +1,11 @@
-// Which cell of its function's frame a value has. A function's ids are those of its parameters, then its result ids, in order.
+// Which cell of its function's frame a value has, by the cell's number there: its slot (no slot of the state). A function's ids are those of its
+// parameters, then its result ids, in order.
 #![tactic(auto)]
 
 ghost use Rattle.std.specs.Prelude.{◌≡◌, ◌+◌, ◌^◌, ◌<◌, leb, length};
 ghost use Rattle.ir.specs.Answers.{option_of};
 ghost use Rattle.program_nodes.specs.Nodes.{ir_of, block_in};
-ghost use Rattle.machine_slots.specs.Slots.{id_of, none_yet, passed, searched, block_results, value_ids, above_all, slot_for, one_of};
+ghost use Rattle.machine_slots.specs.Slots.{id_of, none_yet, passed, searched, block_results, value_ids, above_all, slot_in};
 
 use ir::ValueId;
 use program_nodes::{Block, Function, Record};
@@ -65,7 +66,7 @@ fn search(f: Function, v: Option<ValueId>) -> Result<Tally, usize>
 }
 
 // The ids of a function: how many there are, and a number above all of them.
-#[derive(Clone, Copy, Debug)]
+#[derive(Clone, Copy)]
 pub struct ValueIds<'a> {
     pub function: Function<'a>,
     pub count: usize,
@@ -97,7 +98,7 @@ impl<'a> ValueIds<'a> {
 
     // The slot of v in the frame of their function, if it has one.
     pub fn slot_of(self, v: ValueId) -> Option<usize>
-        ensures { option_of (λ i. i) result ≡ one_of (length (value_ids (ir_of self.entry.function))) (slot_for (value_ids (ir_of self.entry.function)) v.0) }
+        ensures { option_of (λ i. i) result ≡ slot_in (value_ids (ir_of self.entry.function)) v.0 }
     {
         if !self.dense() {
             return search(self.function, Some(v)).err();

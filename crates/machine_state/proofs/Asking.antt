@@ -8,7 +8,7 @@ use Rattle.std.specs.Prelude.{Option, None, Some, Result, Ok, Err, IsErrAnd}
 use Rattle.std.specs.Option.{ok_or}
 use Rattle.definitions.specs.Result as defs
 use Rattle.definitions.specs.Ir.{Instruction}
-use Rattle.definitions.specs.Bench.{Machine, Lent, plain_words, give_result, step_instr}
+use Rattle.definitions.specs.Bench.{Stop, Machine, Lent, plain_words, give_result, step_instr}
 use Rattle.ir.proofs.Exits.{exit}
 use Rattle.program_nodes.specs.declared.block.Records.{Records}
 use Rattle.machine_state.specs.Frames.{Given, given}
@@ -36,6 +36,11 @@ module _ {t : Frame} {before state outside : List ℕ} {o : maths.Option ℕ} {i
       → step_instr plain_words lent m o i ≡ defs.err (halt_of h))
       → Changes t before before state state outside outside o i r
   stops e f = record { run = λ lent frames block depth m R. rw (e, f lent frames block depth m R) refl; kept = λ h z. (refl, refl, refl) }
+
+-- the code's machine behind a step, by the machine that the step gives
+pub steps_to : {memory frames state outside : List ℕ} {t : UnderWay} {m : Machine ℕ} {x : defs.Result (Stop ℕ) (Machine ℕ)} → x ≡ defs.ok m → Running memory frames state outside t m
+    → Gone memory frames state outside t (Ok tt) x
+steps_to e R = rw e R
 
 -- the result takes a word
 pub result : {before after frames state outside : List ℕ} {t : UnderWay} {m : Machine ℕ} {room w : ℕ} {o : maths.Option ℕ} → Running before frames state outside t m → Given room t.frame o → w < 2 ^ 64

@@ -17,7 +17,7 @@ use Rattle.program_nodes.specs.declared.block.Block.{Block}
 use Rattle.program_nodes.specs.declared.block.Records.{Records}
 use Rattle.machine_slots.specs.Slots.{block_results, blocks_results, param_id, value_ids, index_of, Among}
 use Rattle.machine_slots.proofs.Indices.{index_high, in_front, behind}
-use Rattle.machine_state.specs.Owned.{write_below, blocks_below}
+use Rattle.machine_state.specs.Owned.{instrs_write_below, blocks_write_below}
 use Rattle.machine_state.specs.Frames.{frame_function}
 use Rattle.machine_state.specs.Running.{frame_sheet, BlockLeft, Running}
 use Rattle.machine_state.specs.declared.frame.Frame.{Frame}
@@ -42,11 +42,11 @@ found_among k v (x ∷ xs) b e h =
     (λ q. let z = rw (q, find) at e in let y : x ≡ b = cc in among_left v (block_results x.instrs) (blocks_results xs) (rw y h))
     (λ q. among_right v (block_results x.instrs) (blocks_results xs) (found_among k v xs b (rw (q, find) at e) h))
 
-found_own : (n k : ℕ) (bs : List BasicBlock) (b : BasicBlock) → find k bs ≡ some b → blocks_below n bs ≡ true → write_below n b.instrs ≡ true
-unfolding blocks_below
+found_own : (n k : ℕ) (bs : List BasicBlock) (b : BasicBlock) → find k bs ≡ some b → blocks_write_below n bs ≡ true → instrs_write_below n b.instrs ≡ true
+unfolding blocks_write_below
 found_own n k [] b e w = cc
 found_own n k (x ∷ xs) b e w =
-    let p = both_true (write_below n x.instrs) (blocks_below n xs) w in
+    let p = both_true (instrs_write_below n x.instrs) (blocks_write_below n xs) w in
     by_test (eqb x.id k)
     (λ q. let z = rw (q, find) at e in let y : x ≡ b = cc in rw (← y) p.0)
     (λ q. found_own n k xs b (rw (q, find) at e) p.1)

@@ -14,7 +14,7 @@ use Rattle.machine_memory.specs.Cells.{cell_width, cell, stored, emptied}
 use Rattle.machine_memory.proofs.Cells.{stored_same, stored_apart, emptied_same, emptied_apart, length_stored, length_emptied}
 use Rattle.machine_slots.specs.Slots.{Among, slot_for, one_of}
 use Rattle.machine_slots.proofs.Indices.{slot_low, slot_one, frame_bytes}
-use Rattle.machine_state.specs.Frames.{frame_function, frame_ids, value_cell, locals_base, local_cell, slot_place, held_at, InCells}
+use Rattle.machine_state.specs.Frames.{frame_function, frame_ids, CellWithin, value_cell, locals_base, local_cell, slot_place, held_at, InCells}
 use Rattle.machine_state.specs.declared.frame.Frame.{Frame}
 
 -- SLOT WORDS: what the cell of slot i of n holds
@@ -91,7 +91,7 @@ module _ {m after : List ℕ} {t : Frame} {values locals : Notes ℕ} (H : InCel
   }
 
   -- a store that does not touch it
-  pub not_touched : ((r : ℕ) → t.base ≤ r → r + cell_width ≤ t.base + bytes_for (frame_function t) → cell after r ≡ cell m r) → InCells after t values locals
+  pub not_touched : ((r : ℕ) → t.base ≤ r → CellWithin t r → cell after r ≡ cell m r) → InCells after t values locals
   not_touched h =
       let e : bytes_for (frame_function t) ≡ 9 * (length (frame_ids t) + length (frame_function t).locals) = frame_bytes (frame_function t) in
       record {

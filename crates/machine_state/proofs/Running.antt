@@ -8,12 +8,12 @@ use native.Mathlib.Omega.{arith}
 use lib.ListN.{length}
 use Rattle.std.specs.Prelude.{Option, Some}
 use Rattle.definitions.specs.Ir.{BasicBlock}
-use Rattle.definitions.specs.Bench.{Notes, Open, Waiting, Machine, word_at, with_top, into_block, note_result, note_local, give_result, bytes_for}
+use Rattle.definitions.specs.Bench.{Notes, Open, Waiting, Machine, word_at, with_top, into_block, note_result, note_local, give_result}
 use Rattle.program_nodes.specs.declared.block.Records.{Records}
 use Rattle.machine_memory.specs.Cells.{cell_width, cell, stored}
 use Rattle.machine_slots.specs.Slots.{Among}
 use Rattle.machine_slots.proofs.Indices.{slot_low, frame_bytes}
-use Rattle.machine_state.specs.Frames.{frame_function, frame_ids, word_of, value_cell, local_cell, value_held, local_held, InCells, given, forgotten}
+use Rattle.machine_state.specs.Frames.{frame_function, frame_ids, word_of, CellWithin, value_cell, local_cell, value_held, local_held, InCells, given, forgotten}
 use Rattle.machine_state.specs.Running.{StandsFor, BlockLeft, Callers, nobody, waits, Running, at}
 use Rattle.machine_state.specs.declared.frame.Frame.{Frame}
 use Rattle.machine_state.specs.declared.under_way.UnderWay.{UnderWay}
@@ -21,7 +21,7 @@ use Rattle.machine_state.proofs.Frames.{Changed, put_changes, forget_changes, va
 
 -- WHAT IS BELOW A STORE STAYS
 pub standing_kept : {memory after : List ℕ} {t : Frame} {block : Option Records} {f : Open ℕ} → StandsFor memory t block f → length after ≡ length memory
-    → ((r : ℕ) → t.base ≤ r → r + cell_width ≤ t.base + bytes_for (frame_function t) → cell after r ≡ cell memory r) → StandsFor after t block f
+    → ((r : ℕ) → t.base ≤ r → CellWithin t r → cell after r ≡ cell memory r) → StandsFor after t block f
 standing_kept S long h = record { fits = omega (arith, S.fits); function_is = S.function_is; held = not_touched S.held h; block_is = S.block_is }
 
 pub callers_kept : {sheet memory after frames : List ℕ} {d base : ℕ} {ws : List (Waiting ℕ)} → Callers sheet memory frames d base ws → length after ≡ length memory

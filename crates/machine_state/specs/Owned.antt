@@ -18,13 +18,14 @@ writes_below n (Instruction.Poseidon lhs rhs) = true
 writes_below n (Instruction.Emit event args) = true
 writes_below n (Instruction.ContextRead kind) = true
 
-unfoldable pub write_below : ℕ → List InstrNode → Bool
-write_below n [] = true
-write_below n (i ∷ is) = writes_below n i.instr && write_below n is
+-- .. so are those that a list of instructions writes, and a list of blocks; those that a function writes are its own
+unfoldable pub instrs_write_below : ℕ → List InstrNode → Bool
+instrs_write_below n [] = true
+instrs_write_below n (i ∷ is) = writes_below n i.instr && instrs_write_below n is
 
-unfoldable pub blocks_below : ℕ → List BasicBlock → Bool
-blocks_below n [] = true
-blocks_below n (b ∷ bs) = write_below n b.instrs && blocks_below n bs
+unfoldable pub blocks_write_below : ℕ → List BasicBlock → Bool
+blocks_write_below n [] = true
+blocks_write_below n (b ∷ bs) = instrs_write_below n b.instrs && blocks_write_below n bs
 
 abbrev pub writes_own : IrFunction → Bool
-writes_own f = blocks_below (length f.locals) f.blocks
+writes_own f = blocks_write_below (length f.locals) f.blocks

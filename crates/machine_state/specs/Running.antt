@@ -10,7 +10,7 @@ use Rattle.definitions.specs.Bench.{Stop, outcome, too_little_memory, returned, 
 use Rattle.program_nodes.specs.Nodes.{instrs_in, terminator_in}
 use Rattle.program_nodes.specs.declared.block.Records.{Records}
 use Rattle.machine_slots.specs.Slots.{block_results, Among}
-use Rattle.machine_state.specs.Owned.{write_below}
+use Rattle.machine_state.specs.Owned.{instrs_write_below}
 use Rattle.machine_state.specs.Frames.{frame_function, frame_ids, word_of, Fits, InCells}
 use Rattle.machine_state.specs.declared.frame.Frame.{Frame}
 use Rattle.machine_state.specs.declared.under_way.UnderWay.{UnderWay}
@@ -27,7 +27,7 @@ pub record BlockLeft (t : Frame) (r : Records) (b : BasicBlock) : Type 0 where
   pub terminator : b.terminator ≡ terminator_in r
   pub sheet : r.sheet.now ≡ frame_sheet t
   pub among : (v : ℕ) → Among v (block_results (instrs_in r)) → Among v (frame_ids t)
-  pub own : write_below (length (frame_function t).locals) (instrs_in r) ≡ true
+  pub own : instrs_write_below (length (frame_function t).locals) (instrs_in r) ≡ true
 
 -- .. or that it has no block to start in
 abbrev pub BlockIs : Frame → Option Records → maths.Option BasicBlock → Type 0
@@ -43,7 +43,11 @@ pub record StandsFor (memory : List ℕ) (t : Frame) (block : Option Records) (f
   pub held : InCells memory t f.values f.locals
   pub block_is : BlockIs t block f.block
 
--- a function that waits is eight numbers of `frames`, its Call's result id last; the rest of it stands at its record's place
+-- A FUNCTION THAT WAITS is so many numbers of `frames`; what they leave out is read from the sheet again
+abbrev pub waiting_width : ℕ
+waiting_width = 8
+
+-- where what is left of its block starts and ends; zeros if it has none
 abbrev pub place_in : Option Records → ℕ
 place_in None = 0
 place_in (Some r) = r.at
@@ -52,15 +56,17 @@ abbrev pub end_in : Option Records → ℕ
 end_in None = 0
 end_in (Some r) = r.end
 
+-- its record's place, its block, the numbers of its frame, its Call's result id
 abbrev pub waiting_numbers : Frame → Option Records → ℕ → List ℕ
 waiting_numbers t block id = t.ids.function.at ∷ place_in block ∷ end_in block ∷ t.base ∷ t.ids.count ∷ t.ids.above ∷ t.locals ∷ id ∷ []
 
+-- they stand at p; `id` is the result id as its two bytes have it, and its frame of memory ends at `base`, where the next one starts
 pub record Waits (sheet memory frames : List ℕ) (p base : ℕ) (w : Waiting ℕ) : Type 0 where
   pub frame : Frame
   pub same_sheet : frame_sheet frame ≡ sheet
   pub block : Option Records
   pub id : ℕ
-  pub numbers : (i : ℕ) → i < 8 → get_or frames (p + i) 0 ≡ get_or (waiting_numbers frame block id) i 0
+  pub numbers : (i : ℕ) → i < waiting_width → get_or frames (p + i) 0 ≡ get_or (waiting_numbers frame block id) i 0
   pub caller : StandsFor memory frame block w.caller
   pub below : frame.base + bytes_for (frame_function frame) ≡ base
   pub result_is : w.result ≡ opt_from id
@@ -70,15 +76,19 @@ pub record Waits (sheet memory frames : List ℕ) (p base : ℕ) (w : Waiting �
 -- those that wait, the nearest first, functions of one sheet; their frames of memory stand one behind the other, up to `base`
 pub data Callers (sheet memory frames : List ℕ) : ℕ → ℕ → List (Waiting ℕ) → Type 0 where
   nobody : Callers sheet memory frames 0 0 []
-  waits : {d base : ℕ} {w : Waiting ℕ} {ws : List (Waiting ℕ)} → (W : Waits sheet memory frames (8 * d) base w) → Callers sheet memory frames d W.frame.base ws → Callers sheet memory frames (suc d) base (w ∷ ws)
+  waits : {d base : ℕ} {w : Waiting ℕ} {ws : List (Waiting ℕ)} → (W : Waits sheet memory frames (waiting_width * d) base w) → Callers sheet memory frames d W.frame.base ws → Callers sheet memory frames (suc d) base (w ∷ ws)
 
--- `outside` are the outside results that are left
+-- at most so many wait: with the function under way, 16 are open
+abbrev pub most_waiting : ℕ
+most_waiting = 15
+
+-- THE MACHINE and what the code has of it; `outside` are the outside results that are left
 pub record Running (memory frames state outside : List ℕ) (t : UnderWay) (m : Machine ℕ) : Type 0 where
   pub top : StandsFor memory t.frame t.block m.top
   pub callers : Callers (frame_sheet t.frame) memory frames t.depth t.frame.base m.callers
   pub state_is : m.state ≡ state
   pub outside_is : m.outside ≡ outside
-  pub shallow : t.depth ≤ 15
+  pub shallow : t.depth ≤ most_waiting
 
 -- the code's causes as the machine's
 abbrev pub halt_of : Halt → Stop ℕ
@@ -114,11 +124,12 @@ pub record Ends (memory : List ℕ) (t after : UnderWay) (i : Terminator) (r : S
   pub run : (frames state outside : List ℕ) (m : Machine ℕ) → Running memory frames state outside t m → Gone memory frames state outside after r (step_terminator plain_words m i)
   pub kept : (h : Halt) → r ≡ Err h → after ≡ t
 
--- AN INSTRUCTION, behind which the block has been moved: it leaves the place. The code's answer is the machine's, whatever waits and whatever is lent. There are
--- `state` and `outside` before it, `words` and `rest` behind it; where the run stops, all is as before
+-- the function under way, by its parts
 abbrev pub at : Frame → Option Records → ℕ → UnderWay
 at t block depth = record { frame = t; block = block; depth = depth }
 
+-- AN INSTRUCTION, behind which the block has been moved: it leaves the place. The code's answer is the machine's, whatever waits and whatever is lent. There are
+-- `state` and `outside` before it, `words` and `rest` behind it; where the run stops, all is as before
 pub record Changes (t : Frame) (before after state words outside rest : List ℕ) (o : maths.Option ℕ) (i : Instruction) (r : Stepped) : Type 0 where
   pub run : (lent : Lent) (frames : List ℕ) (block : Option Records) (depth : ℕ) (m : Machine ℕ) → Running before frames state outside (at t block depth) m
       → Gone after frames words rest (at t block depth) r (step_instr plain_words lent m o i)

@@ -5,7 +5,7 @@ use ir::BlockId;
 use program_nodes::Records;
 
 // Its frame, what is left of its block, if it has one to start in, and how many functions wait.
-#[derive(Clone, Copy, Debug)]
+#[derive(Clone, Copy)]
 pub struct UnderWay<'a> {
     pub frame: Frame<'a>,
     pub block: Option<Records<'a>>,
@@ -21,7 +21,7 @@ impl UnderWay<'_> {
     pub fn go_to(&mut self, b: BlockId) -> Result<(), Halt>
         ensures { Goes self.old self.new result (λ (m : Machine ℕ). go_to m b.0) }
     {
-        let block = verify_lookup::find_block(self.frame.ids.function, b).ok_or(Halt::Unset)?;
+        let block = program_lookup::find_block(self.frame.ids.function, b).ok_or(Halt::Unset)?;
         self.block = Some(block.records());
         Ok(())
     }

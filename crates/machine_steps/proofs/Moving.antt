@@ -15,7 +15,7 @@ use Rattle.program_nodes.specs.declared.instr.Instr.{Instr}
 use Rattle.program_nodes.specs.declared.term.Term.{Term}
 use Rattle.machine_slots.specs.Slots.{id_or_none, block_results, Among}
 use Rattle.machine_slots.proofs.Indices.{among}
-use Rattle.machine_state.specs.Owned.{writes_below, write_below}
+use Rattle.machine_state.specs.Owned.{writes_below, instrs_write_below}
 use Rattle.machine_state.specs.Frames.{frame_function, frame_ids}
 use Rattle.machine_state.specs.Running.{BlockLeft, BlockIs, Running, Stepped, Gone, at}
 use Rattle.machine_state.specs.declared.frame.Frame.{Frame}
@@ -26,8 +26,8 @@ use Rattle.machine_state.proofs.Blocks.{among_right}
 
 -- what is left of the block behind an instruction, and what is known of it
 module _ {t : Frame} {old new : Records} {i : Instr} {b : BasicBlock} (L : BlockLeft t old b) (F : FirstInstr old new i) where
-  parts : (writes_below (length (frame_function t).locals) (instr_in i) ≡ true) × (write_below (length (frame_function t).locals) (instrs_in new) ≡ true)
-  unfolding write_below
+  parts : (writes_below (length (frame_function t).locals) (instr_in i) ≡ true) × (instrs_write_below (length (frame_function t).locals) (instrs_in new) ≡ true)
+  unfolding instrs_write_below
   parts = both_true _ _ (rw F.instrs at L.own)
 
   pub left_behind : BlockLeft t new (record { id = b.id; instrs = instrs_in new; terminator = b.terminator })

@@ -22,5 +22,6 @@ AreThere (Ok x) (defs.err e) = ⊥
 AreThere (Err h) (defs.ok ws) = ⊥
 AreThere (Err h) (defs.err e) = halt_of h ≡ e
 
+-- .. of every machine that the code stands for
 pub record AllAsked (t : Frame) (memory vs : List ℕ) (r : Stepped) : Type 0 where
   pub run : (frames state outside : List ℕ) (block : Option Records) (depth : ℕ) (m : Machine ℕ) → Running memory frames state outside (at t block depth) m → AreThere r (value_words m vs)

@@ -4,7 +4,7 @@
 #![tactic(auto)]
 
 ghost use Rattle.std.specs.Prelude.{◌≡◌, get_or, length, take};
-ghost use Rattle.definitions.specs.Answers.{check_contract, lowered_numbers, lower_sheet, numbers_of, output_of, padded, refuse_form, verify_sheet};
+ghost use Rattle.definitions.specs.Answers.{check_contract, lowered_numbers, lower_sheet, numbers_of, output_of, padded, refuse_at, verify_sheet};
 ghost use Rattle.definitions.specs.ContractSheet.{refusal3};
 ghost use Rattle.definitions.specs.Demand3.{Demand3Of};
 
@@ -64,7 +64,7 @@ pub extern "C" fn malovuneth_contract_check(sheet: &[u8], out: &mut [usize; 6]) 
 // The form of a contract sheet alone, of any length: accepted, or refusal 3.
 #[unsafe(no_mangle)]
 pub extern "C" fn malovuneth_contract_form(sheet: &[u8], out: &mut [usize; 6]) -> usize
-    ensures out_after { out.new ≡ padded 6 (numbers_of (refuse_form 3 (refusal3 sheet.now))) }
+    ensures out_after { out.new ≡ padded 6 (numbers_of (refuse_at 3 (refusal3 sheet.now))) }
     ensures number { result ≡ get_or out.new 0 0 }
 {
     match sheet::contract_form(sheet) {

@@ -1,4 +1,4 @@
--- Numbers with zeros behind them are known from the numbers alone. Assumes nothing.
+-- Numbers with zeros behind them are known from the numbers alone. It stands in specs/, since the model of `Numbers` cites it and code cites no proof. Assumes nothing.
 use Rattle.std.specs.Prelude.{ℕ, zero, suc, ◌≤◌, ◌≡◌, List, [], ◌∷◌, length, take}
 use Rattle.std.proofs.Common.{refl, ap, arith, length-take}
 use Rattle.definitions.specs.Answers.{padded}

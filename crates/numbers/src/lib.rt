@@ -10,14 +10,14 @@ use sheet::{ContractError, Malformed, OverLimit};
 use std::marker::Model;
 
 // The most numbers that an answer has: a refusal's own, and five details.
-pub const MOST: usize = 6;
+pub const MOST_NUMBERS: usize = 6;
 
 // An answer's numbers: a refusal's own and its details, in order. Acceptance has none, or 0 and a length. A count and an array, and no `ArrayVec`:
 // C reads the zeros behind the numbers too, and behind an `ArrayVec` nothing is known to stand.
 #[derive(Clone, Copy, Debug, PartialEq, Eq)]
 pub struct Numbers {
     count: usize,
-    list: [usize; MOST],
+    list: [usize; MOST_NUMBERS],
 }
 
 // A clause sees the numbers themselves. Zeros stand behind them in the array.
@@ -45,7 +45,7 @@ impl Numbers {
         requires { N ≤ 6 }
         ensures { result ≡ list.entry }
     {
-        let mut all = [0; MOST];
+        let mut all = [0; MOST_NUMBERS];
         all[..N].copy_from_slice(&list);
         Numbers {
             count: N,
@@ -62,7 +62,7 @@ impl Numbers {
     }
 
     // The numbers with zeros behind them, as C reads them.
-    pub fn padded(&self) -> [usize; MOST]
+    pub fn padded(&self) -> [usize; MOST_NUMBERS]
         ensures { result ≡ padded 6 self.now }
     {
         self.list

@@ -14,7 +14,8 @@ use Rattle.definitions.specs.Ir.{Instruction}
 use Rattle.definitions.specs.Records.{opt_from, read_records, read_items, read_item, size_of}
 use Rattle.definitions.proofs.Sheets.Steps.{low}
 use Rattle.program_nodes.specs.Offsets.{param_count_at, first_param_at, records_at, fields_at}
-use Rattle.program_nodes.specs.Positions.{kind_here, stop_here, instr_here, params_here, BlockFrom, BlocksFrom}
+use Rattle.sheet.specs.Passed.{record_kind, stop_of}
+use Rattle.program_nodes.specs.Positions.{instr_here, params_here, BlockFrom, BlocksFrom}
 use Rattle.program_nodes.specs.Definitions.{Definition, param_definitions, result_definition, block_definitions, blocks_definitions, first_definition, is_at}
 use Rattle.program_nodes.specs.Nodes.{definitions_of}
 use Rattle.program_nodes.specs.declared.program.Function.{Function}
@@ -51,21 +52,21 @@ block_ascends (suc n) {s} {q} {end} lo rest h l f a = go (at_record f) (λ m g k
     z : q ≤ end
     z = low f
 
-    go : AtRecord s q end → ((m : ℕ) → end - stop_here s q < n → m < stop_here s q → BlockFrom s (stop_here s q) end → Ascends m (block_definitions (read_records s (stop_here s q) end) ++ rest)) → Ascends lo (block_definitions (read_records s q end) ++ rest)
+    go : AtRecord s q end → ((m : ℕ) → end - stop_of s q < n → m < stop_of s q → BlockFrom s (stop_of s q) end → Ascends m (block_definitions (read_records s (stop_of s q) end) ++ rest)) → Ascends lo (block_definitions (read_records s q end) ++ rest)
     go (at_end e) below = rw (end_definitions s e) (weaken rest (omega arith) a)
     go (at_term T) below = rw (term_definitions T) (weaken rest (omega arith) a)
     go (at_instr I) below =
-        let up : (m : ℕ) → m < stop_here s q → Ascends m (block_definitions (read_records s (stop_here s q) end) ++ rest) = λ m g. below m (omega (arith, I.low, I.high)) g I.next in
-        rw (instr_definitions I, append_assoc) (result_ascends q lo (opt_from (le 2 s (q + fields_at))) (instr_here (kind_here s q) s q (stop_here s q)) (block_definitions (read_records s (stop_here s q) end) ++ rest) l (up lo (omega (arith, I.low))) (up q (omega (arith, I.low))))
+        let up : (m : ℕ) → m < stop_of s q → Ascends m (block_definitions (read_records s (stop_of s q) end) ++ rest) = λ m g. below m (omega (arith, I.low, I.high)) g I.next in
+        rw (instr_definitions I, append_assoc) (result_ascends q lo (opt_from (le 2 s (q + fields_at))) (instr_here (record_kind s q) s q (stop_of s q)) (block_definitions (read_records s (stop_of s q) end) ++ rest) l (up lo (omega (arith, I.low))) (up q (omega (arith, I.low))))
 
 blocks_ascend : (n : ℕ) {s : List ℕ} {b end : ℕ} (lo : ℕ) → end - b < n → lo ≤ b → BlocksFrom s b end → Ascends lo (blocks_definitions (read_records s b end))
 blocks_ascend zero lo h l f = absurd (not-suc-le-zero h)
-blocks_ascend (suc n) {s} {b} {end} lo h l f = go (at_blocks f) (λ g. blocks_ascend n (stop_here s b) g (omega arith))
+blocks_ascend (suc n) {s} {b} {end} lo h l f = go (at_blocks f) (λ g. blocks_ascend n (stop_of s b) g (omega arith))
   where
-    go : AtBlock s b end → (end - stop_here s b < n → BlocksFrom s (stop_here s b) end → Ascends (stop_here s b) (blocks_definitions (read_records s (stop_here s b) end))) → Ascends lo (blocks_definitions (read_records s b end))
+    go : AtBlock s b end → (end - stop_of s b < n → BlocksFrom s (stop_of s b) end → Ascends (stop_of s b) (blocks_definitions (read_records s (stop_of s b) end))) → Ascends lo (blocks_definitions (read_records s b end))
     go (no_block_lem e) below = rw (no_blocks s e) tt
     go (at_block B) below =
-        rw (blocks_definitions_lem B) (block_ascends (suc (stop_here s b - (b + records_at))) lo (blocks_definitions (read_records s (stop_here s b) end)) (omega arith) (omega arith) B.records (below (omega (arith, B.low, B.high)) B.next))
+        rw (blocks_definitions_lem B) (block_ascends (suc (stop_of s b - (b + records_at))) lo (blocks_definitions (read_records s (stop_of s b) end)) (omega arith) (omega arith) B.records (below (omega (arith, B.low, B.high)) B.next))
 
 pub ascends : (f : Function) → Ascends f.at (definitions_of f)
 unfolding definitions_of params_here

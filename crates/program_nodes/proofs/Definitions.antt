@@ -16,7 +16,8 @@ use Rattle.definitions.specs.Grammar.{value_and_type}
 use Rattle.definitions.specs.Records.{pick, Item, opt_from, number_of, type_of, read_item, read_items, size_of, read_records}
 use Rattle.definitions.proofs.Sheets.Passed.{read_end}
 use Rattle.program_nodes.specs.Offsets.{records_at, fields_at}
-use Rattle.program_nodes.specs.Positions.{type_here, kind_here, instr_here}
+use Rattle.sheet.specs.Passed.{record_kind}
+use Rattle.program_nodes.specs.Positions.{type_here, instr_here}
 use Rattle.program_nodes.specs.Definitions.{Definition, result_definition, block_definitions, blocks_definitions, first_definition}
 use Rattle.program_nodes.proofs.Walk.{InstrStep, TermStep, BlockStep}
 
@@ -59,14 +60,14 @@ params_front (suc n) s p h = rw sub-one refl
 -- INSTRUCTIONS
 -- the definition by the instruction at q, and then those of the records after it
 pub instr_definitions : {s : List ℕ} {q end stop : ℕ} → InstrStep s q end stop
-    → block_definitions (read_records s q end) ≡ result_definition q (opt_from (le 2 s (q + fields_at))) (instr_here (kind_here s q) s q stop) ++ block_definitions (read_records s stop end)
+    → block_definitions (read_records s q end) ≡ result_definition q (opt_from (le 2 s (q + fields_at))) (instr_here (record_kind s q) s q stop) ++ block_definitions (read_records s stop end)
 unfolding block_definitions
 instr_definitions {s} {q} {end} {stop} I =
-    ap block_definitions I.read ∙ rw (le-leb (kind_here s q) 81 I.at.high) (ap₂ (λ (r : Option ℕ) (i : Instruction). result_definition q r i ++ block_definitions (read_records s stop end)) I.at.result I.at.is)
+    ap block_definitions I.read ∙ rw (le-leb (record_kind s q) 81 I.at.high) (ap₂ (λ (r : Option ℕ) (i : Instruction). result_definition q r i ++ block_definitions (read_records s stop end)) I.at.result I.at.is)
 
 pub term_definitions : {s : List ℕ} {q end : ℕ} → TermStep s q end → block_definitions (read_records s q end) ≡ []
 unfolding block_definitions
-term_definitions {s} {q} T = ap block_definitions T.read ∙ rw (lt-leb (kind_here s q) 81 (omega (arith, T.at.low)))
+term_definitions {s} {q} T = ap block_definitions T.read ∙ rw (lt-leb (record_kind s q) 81 (omega (arith, T.at.low)))
 
 pub end_definitions : (s : List ℕ) {q end : ℕ} → q ≡ end → block_definitions (read_records s q end) ≡ []
 unfolding block_definitions

@@ -25,7 +25,8 @@ use Rattle.ir.specs.declared.IrType.TheVariants as code
 use Rattle.sheet.specs.Forms.{form_of}
 use Rattle.program_nodes.specs.Nodes.{instr_in, result_is}
 use Rattle.program_nodes.proofs.InstrRows.{own_typed, type_fits}
-use Rattle.program_nodes.specs.Positions.{kind_here, type_here, has_type, type_offset, own_rule, by_rule, term_size, InstrTo, BlockFrom, FunctionHere}
+use Rattle.sheet.specs.Passed.{record_kind}
+use Rattle.program_nodes.specs.Positions.{type_here, has_type, type_offset, own_rule, by_rule, term_size, InstrTo, BlockFrom, FunctionHere}
 use Rattle.program_nodes.specs.declared.program.Program.{Program}
 use Rattle.program_nodes.specs.declared.program.Function.{Function}
 use Rattle.program_nodes.specs.declared.block.Block.{Block}
@@ -45,20 +46,20 @@ function_is f = function_here_is f.here
 pub block_records : (b : Block) → BlockFrom b.sheet.now (b.at + records_at) b.stop
 block_records b = kept b.here.0.0
 
-pub instr_to : (i : Instr) → InstrTo i.sheet.now i.at i.stop (kind_here i.sheet.now i.at)
+pub instr_to : (i : Instr) → InstrTo i.sheet.now i.at i.stop (record_kind i.sheet.now i.at)
 instr_to i = instr_alone (kept i.here.0) i.here.1
 
-pub term_fits : (t : Term) → t.at + term_size (kind_here t.sheet.now t.at) ≤ length t.sheet.now
+pub term_fits : (t : Term) → t.at + term_size (record_kind t.sheet.now t.at) ≤ length t.sheet.now
 term_fits t = term_alone (kept t.here.0) t.here.1
 
 pub instr_result_fits : (i : Instr) → i.at + own_at ≤ i.stop
 instr_result_fits i = omega (arith, (instr_to i).room)
 
-pub context_low : (i : Instr) {r : InstrKind} → instr_number r ≡ kind_here i.sheet.now i.at → r ≡ instr.ContextRead → le 2 i.sheet.now (i.at + own_at) ≤ 2
+pub context_low : (i : Instr) {r : InstrKind} → instr_number r ≡ record_kind i.sheet.now i.at → r ≡ instr.ContextRead → le 2 i.sheet.now (i.at + own_at) ≤ 2
 context_low i h e = let C = (instr_to i).place.context in leb-true _ _ (C (rw (← h, e) refl))
 
 -- THE TYPE of an instruction's result, by its rule
-module _ (i : Instr) {n : ℕ} (h : n ≡ kind_here i.sheet.now i.at) where
+module _ (i : Instr) {n : ℕ} (h : n ≡ record_kind i.sheet.now i.at) where
   instr_of : InstrTo i.sheet.now i.at i.stop n
   instr_of = rw h (instr_to i)
 

@@ -14,10 +14,11 @@ use Rattle.definitions.proofs.Results.{by_test}
 use Rattle.definitions.specs.Fine.{Head, Fine, ends, goes}
 use Rattle.definitions.proofs.Sheets.Passed.{fine, read_end, read_step}
 use Rattle.definitions.proofs.Sheets.Lines.{OfRows, Given, by_lines, same_class, not_left}
-use Rattle.definitions.proofs.Sheets.Singles.{items_from, after as afterAll, Valid, Starts, starts, Counted, counted_field}
+use Rattle.definitions.proofs.Sheets.Singles.{items_from, after as after_all, Valid, Starts, starts, Counted, counted_field}
 use Rattle.definitions.proofs.Sheets.Steps.{Step, here, past, many_step, One, this, one_step, done_ends, low}
 use Rattle.program_nodes.specs.Offsets.{head_width, function_id_at, function_name_at, return_type_at, param_count_at, first_param_at}
-use Rattle.program_nodes.specs.Positions.{type_here, kind_here, stop_here, BlocksFrom, blocks_here, params_here, locals_at, first_block, types_here, functions_here, function_here, FunctionsFrom, ProgramHere, FunctionHere}
+use Rattle.sheet.specs.Passed.{record_kind, stop_of}
+use Rattle.program_nodes.specs.Positions.{type_here, BlocksFrom, blocks_here, params_here, locals_at, first_block, types_here, functions_here, function_here, FunctionsFrom, ProgramHere, FunctionHere}
 use Rattle.program_nodes.specs.Standing.{FunctionStands}
 use Rattle.sheet.proofs.Standing.{kept}
 
@@ -25,7 +26,7 @@ use Rattle.sheet.proofs.Standing.{kept}
 pub record FunctionStep (s : List ℕ) (at end stop : ℕ) : Type 0 where
   pub high : stop ≤ end
   pub low : at + (first_param_at + 2) ≤ first_block s at
-  pub kind : kind_here s at ≡ 51
+  pub kind : record_kind s at ≡ 51
   pub blocks : BlocksFrom s (first_block s at) stop
   pub next : Fine s stop end (many Class.ir_function (many Class.function_name done))
   pub read : functions_here s at end ≡ function_here s at (first_block s at) stop ∷ functions_here s stop end
@@ -48,7 +49,7 @@ module _ (s : List ℕ) (at end b stop : ℕ) where
   F c k fs p = Head s at end c fs p b stop → (p ≡ many Class.basic_block done) × Row51 k (read_values fs s stop (at + head_width))
 
   function_row : OfRows F Class.ir_function rows
-  unfolding Given rows items_from read_item afterAll size_of field_end read_value read_values fields_end Valid ok_item params_here type_here types_here
+  unfolding Given rows items_from read_item after_all size_of field_end read_value read_values fields_end Valid ok_item params_here type_here types_here
   function_row =
       by_lines F Class.ir_function rows
       (λ hd.
@@ -70,8 +71,8 @@ module _ (s : List ℕ) (at end b stop : ℕ) where
 
 -- FUNCTIONS AND THEIR NAMES: what stands at a place among them
 data AtFunction (s : List ℕ) (at end : ℕ) : Type 0 where
-  no_function_lem : functions_here s at end ≡ [] → (at < end → kind_here s at ≡ 52) → AtFunction s at end
-  at_function : FunctionStep s at end (stop_here s at) → AtFunction s at end
+  no_function_lem : functions_here s at end ≡ [] → (at < end → record_kind s at ≡ 52) → AtFunction s at end
+  at_function : FunctionStep s at end (stop_of s at) → AtFunction s at end
 
 abbrev N : Class → ℕ → List Field → Pattern → Type 0
 N c k fs p = k ≡ 52
@@ -80,8 +81,8 @@ name_row : OfRows N Class.function_name rows
 unfolding Given rows
 name_row = by_lines N Class.function_name rows refl
 
-name_kind : {s : List ℕ} {at end b stop : ℕ} {fs : List Field} {p : Pattern} → Head s at end Class.function_name fs p b stop → kind_here s at ≡ 52
-name_kind {s} {at} hd = name_row (kind_here s at) _ _ hd.is
+name_kind : {s : List ℕ} {at end b stop : ℕ} {fs : List Field} {p : Pattern} → Head s at end Class.function_name fs p b stop → record_kind s at ≡ 52
+name_kind {s} {at} hd = name_row (record_kind s at) _ _ hd.is
 
 left_name : {c : Class} (r : Pattern) → after (many Class.function_name done) c ≡ left r → (c ≡ Class.function_name) × (r ≡ many Class.function_name done)
 unfolding after
@@ -96,10 +97,10 @@ unfolding functions_here
 names_only {s} {at} (ends z m) e = rw (← z) (ap (gather 51 51 ir_function_of) (read_end s at))
 names_only {s} {at} {end} (goes {b = b} {stop = stop} {fs = fs} hd a kids rest) e =
     let w = left_name _ (rw e at a) in
-    let k : kind_here s at ≡ 52 = name_kind (rw w.0 at hd) in
+    let k : record_kind s at ≡ 52 = name_kind (rw w.0 at hd) in
     rw (read_step hd kids rest, k) (names_only rest w.1)
 
-first_name : {s : List ℕ} {at end : ℕ} → Step s at end Class.function_name (many Class.function_name done) done → at < end → kind_here s at ≡ 52
+first_name : {s : List ℕ} {at end : ℕ} → Step s at end Class.function_name (many Class.function_name done) done → at < end → record_kind s at ≡ 52
 first_name (past f) l = absurd (omega (arith, done_ends f))
 first_name (here hd kids more) l = name_kind hd
 
@@ -107,7 +108,7 @@ function_step : {s : List ℕ} {at end : ℕ} → Step s at end Class.ir_functio
 unfolding functions_here blocks_here
 function_step {s} {at} {end} (past f) = no_function_lem (names_only f refl) (first_name (many_step Class.function_name done f))
 function_step {s} {at} {end} (here {fs = fs} {q = q} {b = b} {stop = stop} hd kids more) =
-    let r = function_row s at end b stop (kind_here s at) fs q hd.is hd in
+    let r = function_row s at end b stop (record_kind s at) fs q hd.is hd in
     let R = r.1 in
     let f : BlocksFrom s (first_block s at) stop = subst (λ (x : ℕ). BlocksFrom s x stop) R.body (subst (λ (p : Pattern). Fine s b stop p) r.0 kids) in
     at_function (subst (FunctionStep s at end) hd.stop_is (record {
@@ -129,14 +130,14 @@ pub head_there : {s : List ℕ} {at end : ℕ} {p : Pattern} → Fine s at end p
 head_there (ends z m) l = absurd (omega arith)
 head_there (goes hd a kids rest) l = omega (arith, hd.low, hd.mid, hd.high)
 
-pub function_here_lem : {s : List ℕ} {at : ℕ} → FunctionsFrom s at → at < length s → kind_here s at ≡ 51 → FunctionStep s at (length s) (stop_here s at)
+pub function_here_lem : {s : List ℕ} {at : ℕ} → FunctionsFrom s at → at < length s → record_kind s at ≡ 51 → FunctionStep s at (length s) (stop_of s at)
 function_here_lem f l k = elim (at_functions f) [ no_function_lem e n ↦ absurd (omega (arith, n l, k)) | at_function F ↦ F ]
 
-pub no_functions : {s : List ℕ} {at : ℕ} → FunctionsFrom s at → (at < length s → kind_here s at ≡ 51 → ⊥) → functions_here s at (length s) ≡ []
+pub no_functions : {s : List ℕ} {at : ℕ} → FunctionsFrom s at → (at < length s → record_kind s at ≡ 51 → ⊥) → functions_here s at (length s) ≡ []
 no_functions f n = elim (at_functions f) [ no_function_lem e m ↦ e | at_function F ↦ absurd (n (omega (arith, F.low, F.high, low F.blocks)) F.kind) ]
 
 -- where the fields of a function end
-pub function_fits : {s : List ℕ} {at : ℕ} → FunctionsFrom s at → at < length s → kind_here s at ≡ 51 → (first_block s at ≤ stop_here s at) × (stop_here s at ≤ length s)
+pub function_fits : {s : List ℕ} {at : ℕ} → FunctionsFrom s at → at < length s → record_kind s at ≡ 51 → (first_block s at ≤ stop_of s at) × (stop_of s at ≤ length s)
 function_fits f l k = let F = function_here_lem f l k in (low F.blocks, F.high)
 
 -- a function by what its node keeps
@@ -171,7 +172,7 @@ program_at s e = go (one_step Class.program done (fine _ s 0 (length s) _ e))
   where
     go : One s 0 (length s) Class.program done → ProgramAt s
     go (this {fs = fs} {q = q} {b = b} {stop = stop} hd kids more) =
-        let r = program_row (kind_here s 0) fs q hd.is in
+        let r = program_row (record_kind s 0) fs q hd.is in
         let z : stop ≡ length s = done_ends more in
         let w : b ≡ 6 = subst (λ (x : List Field). b ≡ fields_end x s stop (0 + head_width)) r.0 hd.body_is in
         record {

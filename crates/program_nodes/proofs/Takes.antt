@@ -7,7 +7,8 @@ use native.Mathlib.Omega.{arith}
 use Rattle.std.specs.Prelude.{Some}
 use Rattle.definitions.specs.Fields.{le}
 use Rattle.definitions.specs.Records.{read_item, read_items, size_of}
-use Rattle.program_nodes.specs.Positions.{stop_here, ids_here}
+use Rattle.sheet.specs.Passed.{stop_of}
+use Rattle.program_nodes.specs.Positions.{ids_here}
 use Rattle.program_nodes.specs.Nodes.{FirstFunction, FirstParam, FirstBlock, FirstInstr, FirstTerm, NoRecord, TakesRecord, blocks_in, blocks_definitions_in}
 use Rattle.program_nodes.specs.Definitions.{param_definitions}
 use Rattle.program_nodes.specs.declared.program.Functions.{Functions}
@@ -26,9 +27,9 @@ use Rattle.program_nodes.proofs.Walk.{InstrStep, TermStep, BlockStep, instrs_ste
 use Rattle.program_nodes.proofs.Definitions.{params_from, params_front, instr_definitions, term_definitions, end_definitions, blocks_definitions_lem, no_blocks}
 
 -- a block
-pub first_block : {old new : Blocks} {b : Block} → BlockStep old.sheet.now old.at old.end (stop_here old.sheet.now old.at)
-    → b.sheet.now ≡ old.sheet.now → b.at ≡ old.at → b.stop ≡ stop_here old.sheet.now old.at
-    → new.sheet.now ≡ old.sheet.now → new.at ≡ stop_here old.sheet.now old.at → new.end ≡ old.end → FirstBlock old new b
+pub first_block : {old new : Blocks} {b : Block} → BlockStep old.sheet.now old.at old.end (stop_of old.sheet.now old.at)
+    → b.sheet.now ≡ old.sheet.now → b.at ≡ old.at → b.stop ≡ stop_of old.sheet.now old.at
+    → new.sheet.now ≡ old.sheet.now → new.at ≡ stop_of old.sheet.now old.at → new.end ≡ old.end → FirstBlock old new b
 first_block B s a e ns na ne = record {
   is = rw (s, a, e, ns, na, ne) (blocks_step B);
   definitions = rw (s, a, e, ns, na, ne) (blocks_definitions_lem B);
@@ -43,9 +44,9 @@ pub no_block : (old : Blocks) → old.at ≡ old.end → (blocks_in old ≡ []) 
 no_block old e = (blocks_end old.sheet.now e, no_blocks old.sheet.now e)
 
 -- an instruction, a terminator, nothing
-pub first_instr : {old new : Records} {i : Instr} → InstrStep old.sheet.now old.at old.end (stop_here old.sheet.now old.at)
-    → i.sheet.now ≡ old.sheet.now → i.at ≡ old.at → i.stop ≡ stop_here old.sheet.now old.at
-    → new.sheet.now ≡ old.sheet.now → new.at ≡ stop_here old.sheet.now old.at → new.end ≡ old.end → FirstInstr old new i
+pub first_instr : {old new : Records} {i : Instr} → InstrStep old.sheet.now old.at old.end (stop_of old.sheet.now old.at)
+    → i.sheet.now ≡ old.sheet.now → i.at ≡ old.at → i.stop ≡ stop_of old.sheet.now old.at
+    → new.sheet.now ≡ old.sheet.now → new.at ≡ stop_of old.sheet.now old.at → new.end ≡ old.end → FirstInstr old new i
 first_instr I s a e ns na ne = record {
   instrs = rw (s, a, e, ns, na, ne) (instrs_step I);
   terminator = rw (ns, na, ne) (terminator_instr I);

@@ -14,8 +14,9 @@ use Rattle.format.specs.Operators.{operator_number}
 use Rattle.ir.specs.Types.{as_type}
 use Rattle.ir.specs.Answers.{option_of}
 use Rattle.ir.specs.declared.ValueId.{ValueId}
-use Rattle.program_nodes.specs.Offsets.{first_param_at, records_at, fields_at}
-use Rattle.program_nodes.specs.Positions.{kind_here, type_here, type_offset, ids_here, instr_here, term_here, instrs_here, terminator_here, block_here, blocks_here, functions_here, function_here}
+use Rattle.program_nodes.specs.Offsets.{head_width, first_param_at, records_at, fields_at}
+use Rattle.sheet.specs.Passed.{record_kind}
+use Rattle.program_nodes.specs.Positions.{type_here, type_offset, ids_here, instr_here, term_here, instrs_here, terminator_here, block_here, blocks_here, functions_here, function_here}
 use Rattle.program_nodes.specs.Definitions.{Definition, param_definition, param_definitions, result_definition, block_definitions, blocks_definitions}
 use Rattle.program_nodes.specs.declared.program.Program.{Program}
 use Rattle.program_nodes.specs.declared.program.Functions.{Functions}
@@ -40,7 +41,7 @@ value_of v = v.0
 
 -- THE READINGS: functions
 abbrev pub functions_of : Program → List ir.IrFunction
-functions_of p = functions_here p.sheet.now 6 (length p.sheet.now)
+functions_of p = functions_here p.sheet.now head_width (length p.sheet.now)
 
 abbrev pub ids_of_all : Program → List ℕ
 ids_of_all p = function_ids (functions_of p)
@@ -73,7 +74,7 @@ terminator_in w = terminator_here w.sheet.now w.at w.end
 
 -- an instruction, the type among its own fields where its kind is k, its result, and a terminator
 abbrev pub instr_in : Instr → ir.Instruction
-instr_in i = instr_here (kind_here i.sheet.now i.at) i.sheet.now i.at i.stop
+instr_in i = instr_here (record_kind i.sheet.now i.at) i.sheet.now i.at i.stop
 
 abbrev pub own_type_in : Instr → ℕ → ir.IrType
 own_type_in i k = type_here i.sheet.now (i.at + type_offset k)
@@ -90,7 +91,7 @@ abbrev pub node_in : Instr → ir.InstrNode
 node_in i = record { result = result_in i; instr = instr_in i }
 
 abbrev pub term_in : Term → ir.Terminator
-term_in t = term_here (kind_here t.sheet.now t.at) t.sheet.now t.at
+term_in t = term_here (record_kind t.sheet.now t.at) t.sheet.now t.at
 
 abbrev pub ids_in : Ids → List ℕ
 ids_in w = ids_here w.left w.sheet.now w.at
@@ -110,8 +111,8 @@ is_access kind.Add = false
 is_access kind.Sub = false
 is_access kind.Mul = false
 is_access kind.Div = false
-is_access kind.Eq = false
-is_access kind.Ne = false
+is_access kind.IrEq = false
+is_access kind.IrNe = false
 is_access kind.Lt = false
 is_access kind.Le = false
 is_access kind.Gt = false

@@ -1,12 +1,9 @@
 -- Where the fields of a program sheet's records stand, counted from a record's first byte: the numbers that crates/format has for the code.
 -- Assumes nothing: these are definitions.
 use Rattle.std.specs.Prelude.{ℕ, ◌+◌}
-use Rattle.definitions.specs.Fine.{own_start}
+use Rattle.definitions.specs.Fine.{fields_start}
 
 -- the head: the length, then the kind
-abbrev pub kind_at : ℕ
-kind_at = 4
-
 abbrev pub head_width : ℕ
 head_width = 6
 
@@ -35,7 +32,7 @@ records_at = block_id_at + 2
 
 -- instructions and terminators: their fields, behind the head and the origin
 abbrev pub fields_at : ℕ
-fields_at = own_start
+fields_at = fields_start
 
 -- an instruction: its result, then its own fields
 abbrev pub own_at : ℕ

@@ -10,18 +10,11 @@ use Rattle.definitions.specs.InstrTable.{ResultRule, kind_row, kind_of, type_by}
 use Rattle.definitions.specs.ProgramSheet.{binary_of, instr_node_of, block_of, term_of, first_of, ir_function_of}
 use Rattle.definitions.specs.Fine.{Fine}
 use Rattle.ir.specs.Kinds.{rule_in}
-use Rattle.program_nodes.specs.Offsets.{kind_at, function_id_at, function_name_at, return_type_at, param_count_at, first_param_at, block_id_at, records_at, fields_at, own_at, left_at, right_at, call_args_at, event_args_at}
+use Rattle.program_nodes.specs.Offsets.{function_id_at, function_name_at, return_type_at, param_count_at, first_param_at, block_id_at, records_at, fields_at, own_at, left_at, right_at, call_args_at, event_args_at}
 
 -- TYPES: the type in the four bytes at a place
 unfoldable pub type_here : List ℕ → ℕ → IrType
 type_here s p = type_from (le 2 s p) (le 2 s (p + 2))
-
--- RECORDS: the kind of the one at a place, and where it stops
-abbrev pub kind_here : List ℕ → ℕ → ℕ
-kind_here s q = le 2 s (q + kind_at)
-
-abbrev pub stop_here : List ℕ → ℕ → ℕ
-stop_here s q = q + le 4 s q
 
 -- n ids from a place on
 unfoldable pub ids_here : ℕ → List ℕ → ℕ → List ℕ

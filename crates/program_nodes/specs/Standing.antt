@@ -4,7 +4,8 @@ use Rattle.definitions.specs.Fields.{le}
 use Rattle.definitions.specs.Grammar.{Class, Pattern, done, one, perhaps, many}
 use Rattle.definitions.specs.Records.{check_records, Good}
 use Rattle.program_nodes.specs.Offsets.{function_name_at, records_at}
-use Rattle.program_nodes.specs.Positions.{kind_here, stop_here, first_block}
+use Rattle.sheet.specs.Passed.{record_kind, stop_of}
+use Rattle.program_nodes.specs.Positions.{first_block}
 
 -- records that follow a pattern stand from a place to an end
 abbrev pub Stand : Pattern → List ℕ → (at end : ℕ) → Type 0
@@ -16,17 +17,17 @@ FunctionsStand s at = check_records s at (length s) (many Class.ir_function (man
 
 abbrev pub FunctionStands : List ℕ → (at first stop name : ℕ) → Type 0
 FunctionStands s at first stop name =
-    FunctionsStand s at × (at < length s) × (kind_here s at ≡ 51) × (first ≡ first_block s at) × (stop ≡ stop_here s at) × (name ≡ le 2 s (at + function_name_at))
+    FunctionsStand s at × (at < length s) × (record_kind s at ≡ 51) × (first ≡ first_block s at) × (stop ≡ stop_of s at) × (name ≡ le 2 s (at + function_name_at))
 
 -- blocks; the records of a block; a block, by these
 abbrev pub BlocksStand : List ℕ → (at end : ℕ) → Type 0
 BlocksStand = Stand (many Class.basic_block done)
 
-abbrev pub RecordsStand : List ℕ → (at end : ℕ) → Type 0
-RecordsStand = Stand (many Class.instruction (perhaps Class.terminator done))
+abbrev pub InBlockStand : List ℕ → (at end : ℕ) → Type 0
+InBlockStand = Stand (many Class.instruction (perhaps Class.terminator done))
 
 abbrev pub BlockStands : List ℕ → (at stop : ℕ) → Type 0
-BlockStands s at stop = RecordsStand s (at + records_at) stop × (at + records_at ≤ stop)
+BlockStands s at stop = InBlockStand s (at + records_at) stop × (at + records_at ≤ stop)
 
 -- an instruction and a terminator
 abbrev pub InstrStands : List ℕ → (at stop : ℕ) → Type 0

@@ -1,10 +1,10 @@
 // Blocks and their records.
 ghost use Rattle.std.specs.Prelude.{◌≡◌, ◌-◌};
-ghost use Rattle.program_nodes.specs.Standing.{BlocksStand, BlockStands, RecordsStand};
+ghost use Rattle.program_nodes.specs.Standing.{BlocksStand, BlockStands, InBlockStand};
 
 use crate::instr::Instr;
 use crate::term::Term;
-use format::{KIND, kinds, program};
+use format::{KIND, LENGTH_BYTES, kinds, program};
 use ir::BlockId;
 use reader::{read, read_u16};
 
@@ -12,7 +12,7 @@ use reader::{read, read_u16};
 const FIRST_TERMINATOR: u16 = kinds::Terminator::Jump as u16;
 
 // The blocks that stand from a place to an end.
-#[derive(Clone, Copy, Debug)]
+#[derive(Clone, Copy)]
 pub struct Blocks<'a> {
     pub sheet: &'a [u8],
     pub at: usize,
@@ -21,7 +21,7 @@ pub struct Blocks<'a> {
 }
 
 // A block by its place, and where it stops.
-#[derive(Clone, Copy, Debug)]
+#[derive(Clone, Copy)]
 pub struct Block<'a> {
     pub sheet: &'a [u8],
     pub at: usize,
@@ -30,16 +30,16 @@ pub struct Block<'a> {
 }
 
 // The records of a block from a place to its end.
-#[derive(Clone, Copy, Debug)]
+#[derive(Clone, Copy)]
 pub struct Records<'a> {
     pub sheet: &'a [u8],
     pub at: usize,
     pub end: usize,
-    pub ghost here: { RecordsStand sheet.now at end },
+    pub ghost here: { InBlockStand sheet.now at end },
 }
 
 // A record of a block: an instruction, or the terminator that it ends with.
-#[derive(Clone, Copy, Debug)]
+#[derive(Clone, Copy)]
 pub enum Record<'a> {
     Instr(Instr<'a>),
     Term(Term<'a>),
@@ -60,7 +60,7 @@ impl<'a> Iterator for Blocks<'a> {
         if self.end <= at {
             return None;
         }
-        let stop = at + read(self.sheet, at, 4);
+        let stop = at + read(self.sheet, at, LENGTH_BYTES);
         self.at = stop;
         Some(Block {
             sheet: self.sheet,
@@ -110,7 +110,7 @@ impl<'a> Iterator for Records<'a> {
         // The kind is compared as a number: decoded into an enum, verifying takes a fifth more time.
         let kind = read_u16(sheet, at + KIND);
         if kind < FIRST_TERMINATOR {
-            let stop = at + read(sheet, at, 4);
+            let stop = at + read(sheet, at, LENGTH_BYTES);
             self.at = stop;
             return Some(Record::Instr(Instr { sheet, at, stop }));
         }

@@ -6,13 +6,13 @@ ghost use Rattle.program_nodes.specs.Positions.{type_here};
 
 use format::operators::BinOp;
 use format::program::ContextKind;
-use format::{ABSENT, ID, KIND, kinds, program};
+use format::{ABSENT, ID, KIND, SLOT, WORD, kinds, program};
 use ir::{FunctionId, IrType, LocalId, Name, ResultRule, ValueId};
 use reader::{read, read_u16};
 use sheet::places;
 
 // An instruction by its place, and where its record stops.
-#[derive(Clone, Copy, Debug)]
+#[derive(Clone, Copy)]
 pub struct Instr<'a> {
     pub sheet: &'a [u8],
     pub at: usize,
@@ -21,7 +21,7 @@ pub struct Instr<'a> {
 }
 
 // So many values from a place on: the arguments of a call or an event.
-#[derive(Clone, Copy, Debug)]
+#[derive(Clone, Copy)]
 pub struct Ids<'a> {
     pub sheet: &'a [u8],
     pub at: usize,
@@ -31,7 +31,7 @@ pub struct Ids<'a> {
 
 // What an instruction is (`Instruction` of `ir/mod.rs`). `Binary` stands for ten of the Rust's variants, Add to Ge, and has its operator.
 // An offset (i64) and a slot (i32) are the numbers of their 8 and 4 bytes.
-#[derive(Clone, Copy, Debug)]
+#[derive(Clone, Copy)]
 pub enum Instruction<'a> {
     Const(IrType, usize),
     Binary(BinOp, IrType, ValueId, ValueId),
@@ -50,7 +50,7 @@ pub enum Instruction<'a> {
 
 // The type at a place.
 #[tactic(auto, unfolding(crate::specs::Positions::type_here))]
-pub fn type_at(s: &[u8], at: usize) -> IrType
+pub(crate) fn type_at(s: &[u8], at: usize) -> IrType
     requires { at + 4 ≤ length s.now }
     ensures { as_type result ≡ type_here s.now at }
 {
@@ -69,7 +69,8 @@ impl<'a> Instr<'a> {
     ghost use Rattle.ir.specs.Answers.{option_of};
     ghost use Rattle.ir.specs.Kinds.{rule_of};
     ghost use Rattle.program_nodes.specs.Offsets.{right_at};
-    ghost use Rattle.program_nodes.specs.Positions.{ids_here, kind_here, size_here, has_type, own_rule};
+    ghost use Rattle.sheet.specs.Passed.{record_kind};
+    ghost use Rattle.program_nodes.specs.Positions.{ids_here, size_here, has_type, own_rule};
     ghost use Rattle.program_nodes.specs.Nodes.{instr_in, instr_is, is_access, own_type_in, result_is, result_in, value_of, ids_in};
 
     // The id that stands at an offset, the type, and the number of so many bytes.
@@ -96,7 +97,7 @@ impl<'a> Instr<'a> {
 
     // Its kind.
     pub fn kind(self) -> kinds::Instruction
-        ensures is { instr_number result ≡ kind_here self.entry.sheet.now self.entry.at }
+        ensures is { instr_number result ≡ record_kind self.entry.sheet.now self.entry.at }
         ensures room { self.entry.at + size_here (instr_number result) ≤ self.entry.stop }
     {
         kinds::Instruction::try_from(self.id(KIND)).unwrap()
@@ -120,7 +121,7 @@ impl<'a> Instr<'a> {
 
     // The type among its own fields.
     fn own_type(self, kind: kinds::Instruction) -> IrType
-        requires { (instr_number kind ≡ kind_here self.sheet.now self.at) × (has_type (instr_number kind) ≡ true) }
+        requires { (instr_number kind ≡ record_kind self.sheet.now self.at) × (has_type (instr_number kind) ≡ true) }
         ensures { as_type result ≡ own_type_in self.entry (instr_number kind) }
     {
         let offset = match kind {
@@ -145,7 +146,7 @@ impl<'a> Instr<'a> {
 
     // The rule of its result.
     fn rule(self, kind: kinds::Instruction) -> ResultRule
-        requires { instr_number kind ≡ kind_here self.sheet.now self.at }
+        requires { instr_number kind ≡ record_kind self.sheet.now self.at }
         ensures own { own_rule (some (rule_of result)) ≡ true → has_type (instr_number kind) ≡ true }
         ensures gives { type_by (rule_of result) (own_type_in self.entry (instr_number kind)) ≡ result_type (instr_in self.entry) }
     {
@@ -178,14 +179,14 @@ impl<'a> Instr<'a> {
         match kind {
             kinds::Instruction::Const => Instruction::Const(
                 self.ty(program::CONST_TYPE),
-                self.number(program::CONST_VALUE, 8),
+                self.number(program::CONST_VALUE, WORD),
             ),
             kinds::Instruction::Add => self.binary(BinOp::Add),
             kinds::Instruction::Sub => self.binary(BinOp::Sub),
             kinds::Instruction::Mul => self.binary(BinOp::Mul),
             kinds::Instruction::Div => self.binary(BinOp::Div),
-            kinds::Instruction::Eq => self.binary(BinOp::Eq),
-            kinds::Instruction::Ne => self.binary(BinOp::Neq),
+            kinds::Instruction::IrEq => self.binary(BinOp::Eq),
+            kinds::Instruction::IrNe => self.binary(BinOp::Neq),
             kinds::Instruction::Lt => self.binary(BinOp::Lt),
             kinds::Instruction::Le => self.binary(BinOp::Lte),
             kinds::Instruction::Gt => self.binary(BinOp::Gt),
@@ -212,7 +213,7 @@ impl<'a> Instr<'a> {
 
     // The binary instruction of an operator.
     fn binary(self, op: BinOp) -> Instruction<'a>
-        requires { (binary_kind (op_of (operator_number op)) ≡ kind_here self.sheet.now self.at) × (self.at + right_at + 2 ≤ self.stop) }
+        requires { (binary_kind (op_of (operator_number op)) ≡ record_kind self.sheet.now self.at) × (self.at + right_at + 2 ≤ self.stop) }
         ensures { instr_is result ≡ instr_in self.entry }
     {
         Instruction::Binary(
@@ -227,7 +228,7 @@ impl<'a> Instr<'a> {
     // at most 40 lines.
     #[tactic(auto, unfolding(crate::specs::Positions::instr_here))]
     fn access_node(self, kind: kinds::Instruction) -> Instruction<'a>
-        requires is { (instr_number kind ≡ kind_here self.sheet.now self.at) × (is_access kind ≡ true) }
+        requires is { (instr_number kind ≡ record_kind self.sheet.now self.at) × (is_access kind ≡ true) }
         requires room { self.at + size_here (instr_number kind) ≤ self.stop }
         ensures { instr_is result ≡ instr_in self.entry }
     {
@@ -235,19 +236,19 @@ impl<'a> Instr<'a> {
             kinds::Instruction::Load => Instruction::Load(
                 self.ty(program::LOAD_TYPE),
                 ValueId(self.id(program::LOAD_BASE)),
-                self.number(program::LOAD_OFFSET, 8),
+                self.number(program::LOAD_OFFSET, WORD),
             ),
             kinds::Instruction::Store => Instruction::Store(
                 ValueId(self.id(program::STORE_BASE)),
-                self.number(program::STORE_OFFSET, 8),
+                self.number(program::STORE_OFFSET, WORD),
                 ValueId(self.id(program::STORED)),
             ),
             kinds::Instruction::StateRead => Instruction::StateRead(
                 self.ty(program::STATE_READ_TYPE),
-                self.number(program::STATE_READ_SLOT, 4),
+                self.number(program::STATE_READ_SLOT, SLOT),
             ),
             kinds::Instruction::StateWrite => Instruction::StateWrite(
-                self.number(program::STATE_WRITE_SLOT, 4),
+                self.number(program::STATE_WRITE_SLOT, SLOT),
                 ValueId(self.id(program::STATE_WRITTEN)),
             ),
             kinds::Instruction::ReadLocal => Instruction::ReadLocal(
@@ -255,8 +256,8 @@ impl<'a> Instr<'a> {
                 self.ty(program::READ_LOCAL_TYPE),
             ),
             kinds::Instruction::WriteLocal => Instruction::WriteLocal(
-                LocalId(self.id(program::WRITTEN_LOCAL)),
-                ValueId(self.id(program::LOCAL_WRITTEN)),
+                LocalId(self.id(program::WRITE_LOCAL)),
+                ValueId(self.id(program::WRITE_LOCAL_VALUE)),
             ),
             kinds::Instruction::Call => Instruction::Call(
                 FunctionId(self.id(program::CALLEE)),

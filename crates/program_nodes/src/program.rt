@@ -2,33 +2,35 @@
 ghost use Rattle.std.specs.Prelude.{◌≡◌, ◌+◌, ◌-◌, ◌*◌, ◌≤◌, length};
 ghost use Rattle.definitions.specs.Records.{Good};
 ghost use Rattle.definitions.specs.ProgramSheet.{refusal40};
-ghost use Rattle.program_nodes.specs.Positions.{kind_here, stop_here, locals_at, first_block};
+ghost use Rattle.sheet.specs.Passed.{record_kind, stop_of};
+ghost use Rattle.program_nodes.specs.Positions.{locals_at, first_block};
 ghost use Rattle.program_nodes.specs.Standing.{FunctionsStand, FunctionStands};
 
 use crate::block::Blocks;
 use format::kinds::Kind;
-use format::{COUNT, KIND, TYPE, program};
+use format::{COUNT, KIND, LENGTH_BYTES, TYPE, program};
 use ir::{FunctionId, IrType, Name, ValueId};
 use reader::{read, read_u16};
 use sheet::Malformed;
 
 // A program sheet that passed 40.
-#[derive(Clone, Copy, Debug)]
+#[derive(Clone, Copy)]
 pub struct Program<'a> {
     pub sheet: &'a [u8],
     pub ghost passed: { refusal40 sheet.now ≡ Good },
 }
 
 // The functions of a program from a place on.
-#[derive(Clone, Copy, Debug)]
+#[derive(Clone, Copy)]
 pub struct Functions<'a> {
     pub program: Program<'a>,
     pub at: usize,
     pub ghost here: { FunctionsStand program.sheet.now at },
 }
 
-// A function of it: its place, where its first block starts, where it stops, and its name.
-#[derive(Clone, Copy, Debug)]
+// A function of it: its place, where its first block starts, where it stops, and its name. `room` follows from `here`: it is what reading the
+// count of its locals asks, so that no reader has to show it again.
+#[derive(Clone, Copy)]
 pub struct Function<'a> {
     pub program: Program<'a>,
     pub at: usize,
@@ -40,7 +42,7 @@ pub struct Function<'a> {
 }
 
 // So many parameters of a function from a place on.
-#[derive(Clone, Copy, Debug)]
+#[derive(Clone, Copy)]
 pub struct Params<'a> {
     pub sheet: &'a [u8],
     pub at: usize,
@@ -49,7 +51,7 @@ pub struct Params<'a> {
 }
 
 // A parameter by its place: a value and its type.
-#[derive(Clone, Copy, Debug)]
+#[derive(Clone, Copy)]
 pub struct Param<'a> {
     pub sheet: &'a [u8],
     pub at: usize,
@@ -116,8 +118,8 @@ impl<'a> Iterator for Functions<'a> {
 
 // The function that stands at a place.
 fn function_at(program: Program<'_>, at: usize) -> Function<'_>
-    requires stands { FunctionsStand program.sheet.now at × (kind_here program.sheet.now at ≡ 51) }
-    requires room { (first_block program.sheet.now at ≤ stop_here program.sheet.now at) × (stop_here program.sheet.now at ≤ length program.sheet.now) }
+    requires stands { FunctionsStand program.sheet.now at × (record_kind program.sheet.now at ≡ 51) }
+    requires room { (first_block program.sheet.now at ≤ stop_of program.sheet.now at) × (stop_of program.sheet.now at ≤ length program.sheet.now) }
     ensures { (result.program.sheet.now ≡ program.entry.sheet.now) × (result.at ≡ at) }
 {
     let s = program.sheet;
@@ -126,7 +128,7 @@ fn function_at(program: Program<'_>, at: usize) -> Function<'_>
         program,
         at,
         first: locals + COUNT + TYPE * read(s, locals, COUNT),
-        stop: at + read(s, at, 4),
+        stop: at + read(s, at, LENGTH_BYTES),
         name: Name::new(read_u16(s, at + program::FUNCTION_NAME)),
     }
 }

@@ -7,7 +7,7 @@ use reader::read_u16;
 use sheet::places;
 
 // A terminator by its place, and where its record stops.
-#[derive(Clone, Copy, Debug)]
+#[derive(Clone, Copy)]
 pub struct Term<'a> {
     pub sheet: &'a [u8],
     pub at: usize,
@@ -28,11 +28,12 @@ impl Term<'_> {
     ghost use Rattle.std.specs.Prelude.{◌≡◌, ◌+◌, ◌≤◌, length};
     ghost use Rattle.definitions.specs.Fields.{le};
     ghost use Rattle.format.specs.Kinds.{term_number};
-    ghost use Rattle.program_nodes.specs.Positions.{kind_here, term_size};
+    ghost use Rattle.sheet.specs.Passed.{record_kind};
+    ghost use Rattle.program_nodes.specs.Positions.{term_size};
     ghost use Rattle.program_nodes.specs.Nodes.{term_in, term_is};
 
     fn kind(self) -> kinds::Terminator
-        ensures is { term_number result ≡ kind_here self.entry.sheet.now self.entry.at }
+        ensures is { term_number result ≡ record_kind self.entry.sheet.now self.entry.at }
         ensures fits { self.entry.at + term_size (term_number result) ≤ length self.entry.sheet.now }
     {
         kinds::Terminator::try_from(read_u16(self.sheet, self.at + KIND)).unwrap()

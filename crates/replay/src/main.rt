@@ -2,14 +2,15 @@
 // as a line: `L` lowers a contract sheet with an output of 32,768 bytes, `V` verifies a program sheet, `C` checks a contract sheet's length,
 // form and limits, as lowering does before its walk.
 // tests/replay.sh makes the list that the program is run on, and the answers expected.
-// No contract can say which bytes are read or written: `lines::lower_line`, `verify_line` and `contract_line` have the contracts on the bytes.
+// No contract can say which bytes are read or written: `lower_line`, `contract_line` and `verify_line` have the contracts on the bytes.
 #![tactic(auto)]
 
 ghost use Rattle.std.specs.Prelude.{IfSome};
 ghost use Rattle.io.specs.Counts.{IsPrefixLen};
 
-use format::MOST;
-use lines::{LINE, LOWERED_LINE};
+use format::MOST_BYTES;
+use line_text::LINE;
+use lower_line::LOWERED_LINE;
 use thiserror::Error;
 
 // What is asked of a sheet.
@@ -39,7 +40,7 @@ impl TryFrom<u8> for Asked {
 }
 
 // The longest sheet of a list: a byte more than a sheet may have, so that refusal 1 occurs.
-const LONGEST: usize = MOST + 1;
+const LONGEST: usize = MOST_BYTES + 1;
 
 // The letter before the next sheet, and the sheet's length.
 #[derive(Clone, Copy, Debug, PartialEq, Eq)]
@@ -73,9 +74,9 @@ fn read_sheet(rt: &HostRuntime, n: usize, sheet: &mut [u8]) -> Option<usize>
 
 // Prints the line of a contract sheet that is lowered. There is no answer where it cannot be printed.
 fn print_lowered(rt: &HostRuntime, sheet: &[u8]) -> Option<()> {
-    let mut out = [0u8; MOST];
+    let mut out = [0u8; MOST_BYTES];
     let mut text = [0u8; LOWERED_LINE];
-    let k = lines::lower_line(sheet, &mut out, &mut text);
+    let k = lower_line::lower_line(sheet, &mut out, &mut text);
     rt.write_all(&text[..k]).ok()
 }
 
@@ -92,8 +93,8 @@ fn replay_one(rt: &HostRuntime) -> Option<()> {
     let mut text = [0u8; LINE];
     let k = match Asked::try_from(head.letter) {
         Ok(Asked::Lower) => return print_lowered(rt, sheet),
-        Ok(Asked::Verify) => lines::verify_line(sheet, &mut text),
-        Ok(Asked::Check) => lines::contract_line(sheet, &mut text),
+        Ok(Asked::Verify) => verify_line::verify_line(sheet, &mut text),
+        Ok(Asked::Check) => lower_line::contract_line(sheet, &mut text),
         Err(UnknownLetter(_)) => return Some(()),
     };
     rt.write_all(&text[..k]).ok()

@@ -5,10 +5,10 @@ use Rattle.std.proofs.lemmas.List.{drop_all, drop_more}
 use Rattle.definitions.specs.Grammar.{rows}
 use Rattle.definitions.specs.Records.{row_in, past_all, field_end}
 use Rattle.definitions.proofs.Sheets.Passed.{first_past, field_within}
-use Rattle.sheet.specs.declared.tables.Field.{Field}
-use Rattle.sheet.specs.declared.tables.Row as code
+use Rattle.sheet_rows.specs.declared.tables.Field.{Field}
+use Rattle.sheet_rows.specs.declared.tables.Row as code
 use Rattle.sheet.specs.Passed.{Node, Standing, body_of}
-use Rattle.sheet.specs.Tables.{field_of, fields_of, row_of}
+use Rattle.sheet_rows.specs.Tables.{field_of, fields_of, row_of}
 use Rattle.sheet.proofs.Nodes.{opens}
 
 -- the fields from the n-th on stand from `place` on, to `body`

@@ -4,8 +4,8 @@ use borrow.Author.Tests.{eq-eqb, ne_eqb}
 use Rattle.definitions.specs.Grammar.{Pattern}
 use Rattle.definitions.specs.Records.{pick, Good, Bad, and_then, may_end, nothing, starts, start_at, check_rest, records_from, check_records}
 use Rattle.definitions.proofs.Sheets.Passed.{bound_enough}
-use Rattle.sheet.specs.declared.tables.Child.{Child}
-use Rattle.sheet.specs.Tables.{pattern_of}
+use Rattle.sheet_rows.specs.declared.tables.Child.{Child}
+use Rattle.sheet_rows.specs.Tables.{pattern_of}
 use Rattle.sheet.proofs.Heads.{Within, within}
 
 module _ (s : List ℕ) (at end : ℕ) (q : Pattern) where

@@ -9,7 +9,7 @@ use borrow.Author.Tests.{le-leb, leb-true}
 use Rattle.definitions.specs.Result.{err, ok, ◌>>◌, check}
 use Rattle.definitions.specs.Records.{Verdict, Good, Bad}
 use Rattle.definitions.specs.ContractSheet.{refusal3, refusal4}
-use Rattle.definitions.specs.Answers.{refusal, refuse_form, check_contract}
+use Rattle.definitions.specs.Answers.{refusal, refuse_at, check_contract}
 use Rattle.sheet.specs.Passed.{ContractPassed}
 
 module _ (s : List ℕ) (h : length s ≤ 32768) where
@@ -27,7 +27,7 @@ pub passed : (s : List ℕ) → check_contract s ≡ ok tt → ContractPassed s
 passed s e = go (leb (length s) 32768) (refusal3 s) (refusal4 s) refl refl refl e
   where
     go : (b : Bool) (f l : Verdict) → leb (length s) 32768 ≡ b → refusal3 s ≡ f → refusal4 s ≡ l
-        → (check b (refusal 1 []) >> (refuse_form 3 f >> refuse_form 4 l)) ≡ ok tt → ContractPassed s
+        → (check b (refusal 1 []) >> (refuse_at 3 f >> refuse_at 4 l)) ≡ ok tt → ContractPassed s
     go false f l p q r z = absurd cc
     go true (Bad x) l p q r z = absurd cc
     go true Good (Bad x) p q r z = absurd cc

@@ -9,7 +9,7 @@ use Rattle.definitions.proofs.Sheets.Passed.{Ends, all_past}
 use Rattle.std.specs.Prelude.{Result, Ok, Err, IsErr}
 use Rattle.sheet.specs.declared.errors.Malformed.{Malformed}
 use Rattle.sheet.specs.declared.records.Start as code
-use Rattle.sheet.specs.Tables.{row_at, start_of}
+use Rattle.sheet.specs.Starts.{row_at, start_of}
 
 -- an error says that no record starts
 pub shut : (r : Result code.Start Malformed) {x : Start} → IsErr r → nothing ≡ x → start_of r ≡ x

@@ -4,12 +4,10 @@ mod Bodies
 mod Checks
 pub mod Contracts
 mod Counts
-mod Fields
+mod Ends
 mod Heads
-mod Lists
 pub mod Nodes
 mod Patterns
-mod Rows
 pub mod Standing
 mod Widths
 mod Within

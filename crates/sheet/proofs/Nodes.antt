@@ -13,7 +13,7 @@ use Rattle.std.specs.Prelude.{Result, Ok, Err, IsOk}
 use Rattle.format.specs.Kinds.{IsKind}
 use Rattle.format.specs.declared.kinds.Kind.{Kind}
 use Rattle.format.specs.declared.kinds.UnknownKind.{UnknownKind}
-use Rattle.sheet.proofs.Rows.{unknown}
+use Rattle.sheet_rows.proofs.Rows.{unknown}
 use Rattle.sheet.specs.Passed.{Passed, Standing, Node, record_kind, stop_of, body_of, values_at}
 
 unfoldable pub node_of : {c : Class} {fs : List Field} {p r : Pattern} {s : List ℕ} {at end b stop : ℕ} → Head s at end c fs p b stop → Fine s b stop p → Fine s stop end r → Node s at end

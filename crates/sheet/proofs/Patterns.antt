@@ -4,12 +4,12 @@ use Rattle.std.proofs.lemmas.List.{take_rest, drop_all, drop_more}
 use borrow.Author.Tests.{eq-eqb, ne_eqb}
 use Rattle.definitions.specs.Grammar.{class_no, Pattern}
 use Rattle.definitions.specs.Records.{refused, left, after}
-use Rattle.sheet.specs.declared.tables.Class.{Class}
-use Rattle.sheet.specs.declared.tables.Class.TheVariants as class
-use Rattle.sheet.specs.declared.tables.Child.{Child}
-use Rattle.sheet.specs.declared.tables.Often.{Often}
-use Rattle.sheet.specs.declared.tables.Often.TheVariants as often
-use Rattle.sheet.specs.Tables.{class_of, then_child, pattern_of}
+use Rattle.sheet_rows.specs.declared.tables.Class.{Class}
+use Rattle.sheet_rows.specs.declared.tables.Class.TheVariants as class
+use Rattle.sheet_rows.specs.declared.tables.Child.{Child}
+use Rattle.sheet_rows.specs.declared.tables.Often.{Often}
+use Rattle.sheet_rows.specs.declared.tables.Often.TheVariants as often
+use Rattle.sheet_rows.specs.Tables.{class_of, then_child, pattern_of}
 
 -- a class is known by its number
 classes : List Class

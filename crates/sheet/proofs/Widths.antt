@@ -12,14 +12,11 @@ use Rattle.definitions.specs.Records.{size_of, FieldValue, field_end, fields_end
 use Rattle.definitions.specs.ContractSheet.{count_trees}
 use Rattle.definitions.proofs.Sheets.Reads.{items_count}
 use Rattle.definitions.proofs.Sheets.Singles.{after, starts}
-use Rattle.sheet.specs.Limits.{too_wide}
+use Rattle.sheet.specs.Limits.{too_wide, HasArguments}
 use Rattle.sheet.specs.Passed.{Node, Passed, Standing, record_kind, stop_of, body_of, values_at, children_of}
 use Rattle.sheet.proofs.Nodes.{opens, head_of, children_of_lem, values_of}
 
 -- an Emit or a Call: 16 arguments at most
-abbrev pub HasArguments : ℕ → Type 0
-HasArguments k = (k ≡ 19) ⊎ (k ≡ 37)
-
 arguments_limit : {k : ℕ} → HasArguments k → (v : List FieldValue) (m : ℕ) → too_wide k v m ≡ leb 17 m
 unfolding too_wide
 arguments_limit (inl q) v m = rw q

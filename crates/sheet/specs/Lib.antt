@@ -1,4 +1,4 @@
 pub mod Forms
 pub mod Limits
 pub mod Passed
-pub mod Tables
+pub mod Starts

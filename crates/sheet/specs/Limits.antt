@@ -1,5 +1,5 @@
 -- The two halves of `over` of refusal 4 that do not look at the depth, and the counts of the code. Assumes nothing: these are definitions.
-use Rattle.std.specs.Prelude.{ℕ, ◌+◌, Bool, false, List, leb, eqb, length}
+use Rattle.std.specs.Prelude.{ℕ, ◌+◌, ◌≡◌, ◌⊎◌, Bool, false, List, leb, eqb, length}
 use Rattle.definitions.specs.ContractSheet as sheets
 use Rattle.definitions.specs.Records.{pick, FieldValue, items_at}
 use Rattle.sheet.specs.declared.limits.Counts as code
@@ -12,6 +12,10 @@ too_many k a b c = pick (eqb k 2) (leb 256 a) (pick (eqb k 3) (leb 64 b) (pick (
 unfoldable pub too_wide : ℕ → List FieldValue → ℕ → Bool
 too_wide k v m =
     pick (eqb k 3) (leb 65 (length (items_at 1 v))) (pick (eqb k 4) (leb 17 (length (items_at 3 v))) (pick (eqb k 19) (leb 17 m) (pick (eqb k 37) (leb 17 m) false)))
+
+-- a record of kind k is an Emit or a Call
+abbrev pub HasArguments : ℕ → Type 0
+HasArguments k = (k ≡ 19) ⊎ (k ≡ 37)
 
 -- what the code counted, all of it together, and with a record of kind k
 abbrev pub counts_of : code.Counts → sheets.Counts

@@ -2,14 +2,10 @@
 // limits (4) of a contract sheet. 3, 4 and 40 have a place.
 #![tactic(auto)]
 
-mod contract_rows; // a row for each record kind of a contract sheet
 pub mod errors; // why a sheet is refused
-mod fixed_fields; // the fixed fields of a record
 mod limits; // refusal 4
 pub mod places; // where things stand in a record that passed
-mod program_rows; // the same of a program sheet
 mod records; // refusals 3 and 40
-mod tables; // what a row says, and the row of each record kind
 
 ghost use Rattle.std.specs.Prelude.{◌≡◌};
 ghost use Rattle.definitions.specs.Answers.{check_contract};
@@ -22,7 +18,7 @@ ghost use Rattle.sheet.specs.Forms.{form_of, limits_of, refusal_of};
 pub use errors::{ContractError, Malformed, OverLimit};
 use limits::limits;
 use records::records;
-use tables::{Child, Class, Often};
+use sheet_rows::tables::{Child, Class, Often};
 
 // The patterns of the sheets: one contract, one program.
 const ONE_CONTRACT: &[Child] = &[Child {
@@ -63,7 +59,7 @@ fn contract_limits(s: &[u8]) -> Result<(), OverLimit>
 pub fn check_contract(s: &[u8]) -> Result<(), ContractError>
     ensures { done_of refusal_of result ≡ check_contract s.now }
 {
-    if format::MOST < s.len() {
+    if format::MOST_BYTES < s.len() {
         return Err(ContractError::TooLong);
     }
     contract_form(s)?;

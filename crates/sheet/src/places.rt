@@ -7,12 +7,12 @@ ghost use Rattle.definitions.specs.ContractSheet.{count_trees};
 ghost use Rattle.format.specs.Kinds.{kind_number};
 ghost use Rattle.ir.specs.Answers.{option_of};
 ghost use Rattle.sheet.specs.Passed.{Passed, Standing, record_kind, body_of};
-ghost use Rattle.sheet.specs.Tables.{field_of};
+ghost use Rattle.sheet_rows.specs.Tables.{field_of};
 
-use crate::tables::{Field, row_of};
 use format::kinds::Kind;
-use format::{ABSENT, COUNT, HEAD, ID, KIND, LENGTH_BYTES, TYPE, program};
+use format::{ABSENT, COUNT, HEAD, ID, KIND, LENGTH_BYTES, SLOT, TYPE, WORD, program};
 use reader::{read, read_u16};
+use sheet_rows::tables::{Field, row_of};
 
 // The place after a field.
 #[tactic(auto, unfolding(definitions::specs::Records::field_end, definitions::specs::Records::size_of))]
@@ -22,11 +22,10 @@ fn field_end(s: &[u8], at: usize, stop: usize, field: Field) -> usize
 {
     match field {
         Field::Origin => at + program::ORIGIN,
-        Field::Id | Field::OptId => at + ID,
+        Field::Id | Field::OptId | Field::Flag | Field::Operator | Field::Context => at + ID,
         Field::Type => at + TYPE,
-        Field::U64 => at + 8,
-        Field::U32 => at + 4,
-        Field::Flag | Field::Operator | Field::Context => at + 2,
+        Field::U64 => at + WORD,
+        Field::U32 => at + SLOT,
         Field::Counted(entry) => at + COUNT + entry.size() * read(s, at, COUNT),
         Field::Listed(_) => stop,
     }

@@ -4,14 +4,15 @@ ghost use Rattle.std.specs.Prelude.{◌≡◌, ◌≤◌, ◌<◌, length, IfErr
 ghost use Rattle.definitions.specs.Records.{may_end, after, check_records};
 ghost use Rattle.definitions.specs.Records as records;
 ghost use Rattle.sheet.specs.Forms.{form_of};
-ghost use Rattle.sheet.specs.Tables.{Extent, class_of, pattern_of, next_of, row_found, row_at, start_of};
+ghost use Rattle.sheet_rows.specs.Tables.{Extent, class_of, pattern_of};
+ghost use Rattle.sheet.specs.Starts.{next_of, row_found, row_at, start_of};
 
 use crate::Malformed;
-use crate::fixed_fields::past_fields;
-use crate::tables::{Child, Class, Often, Row, row_of};
 use format::kinds::Kind;
 use format::{HEAD, KIND, LENGTH_BYTES};
 use reader::{read, read_u16};
+use sheet_rows::fixed_fields::past_fields;
+use sheet_rows::tables::{Child, Class, Often, Row, row_of};
 
 // A record that may stand where it starts: where its children start and it stops, what children it has, and what may come after it.
 #[derive(Clone, Copy)]
@@ -51,7 +52,7 @@ fn may_end(pattern: &[Child]) -> bool
 }
 
 // The row of the record at a place, if its length fits what is left of its parent.
-#[tactic(auto, unfolding(crate::specs::Tables::row_at))]
+#[tactic(auto, unfolding(crate::specs::Starts::row_at))]
 fn row_at(s: &[u8], at: usize, end: usize) -> Option<&'static Row>
     requires { Extent s.now at end }
     ensures { row_found result ≡ row_at s.now at end }

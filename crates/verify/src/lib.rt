@@ -127,7 +127,7 @@ fn verify_program(program: Program<'_>) -> Result<(), VerifyError>
 pub fn verify(sheet: &[u8]) -> Result<(), Refusal>
     ensures { answer_of result ≡ verify_sheet sheet.now }
 {
-    if format::MOST < sheet.len() {
+    if format::MOST_BYTES < sheet.len() {
         return Err(Refusal::TooLong);
     }
     let program = Program::new(sheet)?;

@@ -16,7 +16,7 @@ pub enum Refusal {
     Verify(VerifyError),
 }
 
-// `From` by hand: the derive's has no `from_gives`, so that nothing were known of what `?` passes on.
+// By hand: the derive's `From` has no `from_gives`, so nothing would be known of the error that `?` hands on.
 impl From<Malformed> for Refusal {
     ghost from_gives = { λ fault r. r ≡ refusal.Malformed fault };
 

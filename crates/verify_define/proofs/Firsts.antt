@@ -5,7 +5,7 @@ use mathlib.Core.List.{List, [], ◌∷◌, ◌++◌, append_assoc}
 use mathlib.Core.Option.{Option, none, some}
 use Prim.Native.Nat.{ℕ, suc, ◌+◌, ◌-◌}
 use native.Mathlib.Omega.{arith}
-use Rattle.program_nodes.specs.Positions.{kind_here}
+use Rattle.sheet.specs.Passed.{record_kind}
 use Rattle.definitions.specs.Result.{err, ok, ◌>>=◌}
 use Rattle.definitions.specs.Ir.{IrType, Instruction, InstrNode, BasicBlock, result_type}
 use Rattle.definitions.specs.InstrTable.{kind_of}
@@ -153,5 +153,5 @@ module _ {f : Function} {own ds : List Definition} {whole : Defined → Checked 
       (block_grows (suc (b.stop - (b.at + records_at))) (omega arith) (block_records b)) D
 
 -- the kind of an instruction, by its number
-pub kind_is : (i : Instr) → kind_here i.sheet.now i.at ≡ kind_of (instr_in i)
+pub kind_is : (i : Instr) → record_kind i.sheet.now i.at ≡ kind_of (instr_in i)
 kind_is i = sym ((instr_to i).place.kind_is i.stop)

@@ -15,7 +15,8 @@ use Rattle.definitions.specs.Records.{opt_from, read_records}
 use Rattle.definitions.specs.Verify.{VerifyError, Checked, Defined, defined_type, insert, define_params, define_result, define_results, define_blocks}
 use Rattle.definitions.proofs.Results.{ok_inj, err_ok, taking}
 use Rattle.program_nodes.specs.Offsets.{records_at, fields_at}
-use Rattle.program_nodes.specs.Positions.{kind_here, stop_here, instr_here, instrs_here, blocks_here, BlockFrom, BlocksFrom}
+use Rattle.sheet.specs.Passed.{record_kind, stop_of}
+use Rattle.program_nodes.specs.Positions.{instr_here, instrs_here, blocks_here, BlockFrom, BlocksFrom}
 use Rattle.program_nodes.specs.Definitions.{Definition, param_definitions, result_definition, block_definitions, blocks_definitions, first_definition, is_at}
 use Rattle.program_nodes.proofs.Walk.{AtRecord, at_end, at_instr, at_term, at_record, instrs_step, instrs_term, instrs_end, AtBlock, no_block_lem, at_block, at_blocks, blocks_step, blocks_end}
 use Rattle.program_nodes.proofs.Definitions.{or_else, first_append, instr_definitions, term_definitions, end_definitions, blocks_definitions_lem, no_blocks}
@@ -116,23 +117,23 @@ unfolding define_results
 block_grows zero h f = absurd (not-suc-le-zero h)
 block_grows (suc n) {s} {q} {end} h f = go (at_record f) (λ g. block_grows n g)
   where
-    go : AtRecord s q end → (end - stop_here s q < n → BlockFrom s (stop_here s q) end → Grows (define_results (instrs_here s (stop_here s q) end)) (block_definitions (read_records s (stop_here s q) end))) → Grows (define_results (instrs_here s q end)) (block_definitions (read_records s q end))
+    go : AtRecord s q end → (end - stop_of s q < n → BlockFrom s (stop_of s q) end → Grows (define_results (instrs_here s (stop_of s q) end)) (block_definitions (read_records s (stop_of s q) end))) → Grows (define_results (instrs_here s q end)) (block_definitions (read_records s q end))
     go (at_end z) below = rw (instrs_end s z, end_definitions s z) grows_none
     go (at_term T) below = rw (instrs_term T, term_definitions T) grows_none
     go (at_instr I) below =
-        let i = instr_here (kind_here s q) s q (stop_here s q) in
+        let i = instr_here (record_kind s q) s q (stop_of s q) in
         let r = opt_from (le 2 s (q + fields_at)) in
         rw (instrs_step I, instr_definitions I)
-        (grows_then (define_result i r) (define_results (instrs_here s (stop_here s q) end)) (result_definition q r i) (block_definitions (read_records s (stop_here s q) end)) (result_grows i q r) (below (omega (arith, I.low, I.high)) I.next))
+        (grows_then (define_result i r) (define_results (instrs_here s (stop_of s q) end)) (result_definition q r i) (block_definitions (read_records s (stop_of s q) end)) (result_grows i q r) (below (omega (arith, I.low, I.high)) I.next))
 
 pub blocks_grow : (n : ℕ) {s : List ℕ} {b end : ℕ} → end - b < n → BlocksFrom s b end → Grows (define_blocks (blocks_here s b end)) (blocks_definitions (read_records s b end))
 unfolding define_blocks
 blocks_grow zero h f = absurd (not-suc-le-zero h)
 blocks_grow (suc n) {s} {b} {end} h f = go (at_blocks f) (λ g. blocks_grow n g)
   where
-    go : AtBlock s b end → (end - stop_here s b < n → BlocksFrom s (stop_here s b) end → Grows (define_blocks (blocks_here s (stop_here s b) end)) (blocks_definitions (read_records s (stop_here s b) end))) → Grows (define_blocks (blocks_here s b end)) (blocks_definitions (read_records s b end))
+    go : AtBlock s b end → (end - stop_of s b < n → BlocksFrom s (stop_of s b) end → Grows (define_blocks (blocks_here s (stop_of s b) end)) (blocks_definitions (read_records s (stop_of s b) end))) → Grows (define_blocks (blocks_here s b end)) (blocks_definitions (read_records s b end))
     go (no_block_lem z) below = rw (blocks_end s z, no_blocks s z) grows_none
     go (at_block B) below =
         rw (blocks_step B, blocks_definitions_lem B)
-        (grows_then (define_results (instrs_here s (b + records_at) (stop_here s b))) (define_blocks (blocks_here s (stop_here s b) end)) (block_definitions (read_records s (b + records_at) (stop_here s b))) (blocks_definitions (read_records s (stop_here s b) end))
-        (block_grows (suc (stop_here s b - (b + records_at))) (omega arith) B.records) (below (omega (arith, B.low, B.high)) B.next))
+        (grows_then (define_results (instrs_here s (b + records_at) (stop_of s b))) (define_blocks (blocks_here s (stop_of s b) end)) (block_definitions (read_records s (b + records_at) (stop_of s b))) (blocks_definitions (read_records s (stop_of s b) end))
+        (block_grows (suc (stop_of s b - (b + records_at))) (omega arith) B.records) (below (omega (arith, B.low, B.high)) B.next))

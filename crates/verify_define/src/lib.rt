@@ -13,25 +13,24 @@ pub fn define_params(f: Function<'_>) -> Result<(), VerifyError>
 {
     for param in f.params() {
         let value = param.value();
-        if !verify_lookup::is_first_definition(f, value, param.at) {
+        if !program_lookup::is_first_definition(f, value, param.at) {
             return Err(VerifyError::DuplicateValueDef(f.name, value));
         }
     }
     Ok(())
 }
 
-// An instruction: it gives what its result is for, and that is defined nowhere before.
+// An instruction with a result id: its kind must give a result (50), and no earlier definition may have the id (42).
 fn define_result(f: Function<'_>, instr: Instr<'_>) -> Result<(), VerifyError>
     ensures { DefinesResult f.entry (checked_of result) instr.entry }
 {
     let Some(value) = instr.result() else {
         return Ok(());
     };
-    let first = verify_lookup::is_first_definition(f, value, instr.at);
     let Some(_) = instr.result_type() else {
-        let kind = instr.kind();
-        return Err(VerifyError::ResultOnNone(f.name, kind));
+        return Err(VerifyError::ResultOnNone(f.name, instr.kind()));
     };
+    let first = program_lookup::is_first_definition(f, value, instr.at);
     if !first {
         return Err(VerifyError::DuplicateValueDef(f.name, value));
     }

@@ -35,9 +35,9 @@ instr_check f i ds = verify_instr i ds (ids_of_all f.program) (length (ir_of f).
 
 unfoldable pub operands_check : IrType → (l r : ℕ) → Defined → Checked Done
 operands_check ty l r ds = do
-  lhsTy ← check_value_ref l ds
-  rhsTy ← check_value_ref r ds
-  check (eq_type lhsTy (as_type ty) && eq_type rhsTy (as_type ty)) (rules.VerifyError.OperandTypeMismatch lhsTy rhsTy)
+  lhs_ty ← check_value_ref l ds
+  rhs_ty ← check_value_ref r ds
+  check (eq_type lhs_ty (as_type ty) && eq_type rhs_ty (as_type ty)) (rules.VerifyError.OperandTypeMismatch lhs_ty rhs_ty)
 
 -- of a terminator of f, of what a return gives, and of a branch's value: defined, and a Bool
 abbrev pub term_check : Function → Terminator → Defined → Checked Done
@@ -45,10 +45,10 @@ term_check f t ds = verify_terminator t (ir_of f).ret_ty ds (block_ids (ir_of f)
 
 unfoldable pub return_check : Function → Option ValueId → Defined → Checked Done
 return_check f v ds = do
-  gotTy ← returned_type (option_of value_of v) ds
-  check (return_matches (ir_of f).ret_ty gotTy) (rules.VerifyError.ReturnTypeMismatch (ir_of f).ret_ty gotTy)
+  got_ty ← returned_type (option_of value_of v) ds
+  check (return_matches (ir_of f).ret_ty got_ty) (rules.VerifyError.ReturnTypeMismatch (ir_of f).ret_ty got_ty)
 
 unfoldable pub condition_check : ℕ → Defined → Checked Done
 condition_check v ds = do
-  condTy ← check_value_ref v ds
-  check (eq_type condTy ir.IrType.BoolT) (rules.VerifyError.BranchConditionNotBool v condTy)
+  cond_ty ← check_value_ref v ds
+  check (eq_type cond_ty ir.IrType.BoolT) (rules.VerifyError.BranchConditionNotBool v cond_ty)

@@ -27,7 +27,7 @@ fn same_type(a: IrType, b: IrType) -> bool
 pub fn check_value(f: Function<'_>, v: ValueId) -> Result<IrType, VerifyError>
     ensures { Finds f.entry v.0 result }
 {
-    verify_lookup::defined_type(f, v).ok_or(VerifyError::UndefinedValue(f.name, v))
+    program_lookup::defined_type(f, v).ok_or(VerifyError::UndefinedValue(f.name, v))
 }
 
 // Each of the values is defined.
@@ -44,7 +44,7 @@ pub fn check_values(f: Function<'_>, values: Ids<'_>) -> Result<(), VerifyError>
 pub fn check_block(f: Function<'_>, b: BlockId) -> Result<(), VerifyError>
     ensures { Says f.entry (checked_of result) (target_check f.entry b.0) }
 {
-    if verify_lookup::has_block(f, b) {
+    if program_lookup::has_block(f, b) {
         return Ok(());
     }
     Err(VerifyError::UndefinedBlock(f.name, b))
@@ -54,7 +54,7 @@ pub fn check_block(f: Function<'_>, b: BlockId) -> Result<(), VerifyError>
 pub fn check_function(f: Function<'_>, g: FunctionId) -> Result<(), VerifyError>
     ensures { Says f.entry (checked_of result) (function_check f.entry g.0) }
 {
-    if verify_lookup::has_function(f.program, g) {
+    if program_lookup::has_function(f.program, g) {
         return Ok(());
     }
     Err(VerifyError::UndefinedFunction(f.name, g))

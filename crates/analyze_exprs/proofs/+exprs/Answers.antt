@@ -88,7 +88,7 @@ analyze_call-loop-i-init t c =
       depth = refl;
       few = omega arith;
       many = omega arith;
-      left = rw c.callee_named-callee.ensures (call_starts _ _ _ _ _);
+      left = rw c.signature_named-signature.ensures (call_starts _ _ _ _ _);
     })
 
 pub analyze_call-analyze_expr-requires : goal.analyze_call-analyze_expr-requires
@@ -117,4 +117,4 @@ pub analyze_call-returns : goal.analyze_call-returns
 analyze_call-returns t c =
     let i = c.loop-i.invariant in
     let all : c.len.result ≡ enumerate_count c.loop-i.i-iterator = omega (arith, i.many, c.len.ensures, ap count_of c.in-None.ensures.steps.0) in
-    c.finish_call.ensures ∙ rw all (finishes i.left c.in-None.ensures.steps.0)
+    c.finished.ensures ∙ rw all (finishes i.left c.in-None.ensures.steps.0)

@@ -9,7 +9,7 @@ use Rattle.contract_nodes.specs.Nodes.{struct_in, fields_in, exprs_in, count_of}
 use Rattle.analyze_walk.specs.Stops.{check_fields}
 use Rattle.analyze_state.specs.State.{analyzed_contract, OfSheet}
 use Rattle.analyze_exprs.specs.Typed.{check_literal, check_call}
-use Rattle.analyze_exprs.specs.Calls.{callee_in}
+use Rattle.analyze_exprs.specs.Calls.{signature_found}
 use Rattle.analyze_exprs.proofs.Turns.{Going}
 use Rattle.std.specs.Iterator.Adapters.{enumerate_source, enumerate_count}
 use Rattle.analyze_exprs.proofs.+exprs.Given as goal
@@ -42,5 +42,5 @@ invariant-analyze_call-loop-i l =
       depth : rest.depth ≡ l.fn.args.depth;
       few : n ≤ rest.at;
       many : n + count_of (exprs_in rest) ≡ count_of (exprs_in l.fn.args);
-      left : Going (analyzed_contract l.a) l.env.names l.at (callee_in l.callee) (check_call (analyzed_contract l.a) l.env.names l.at l.fn.name.0 (exprs_in l.fn.args)) (exprs_in rest) n l.fits;
+      left : Going (analyzed_contract l.a) l.env.names l.at (signature_found l.signature) (check_call (analyzed_contract l.a) l.env.names l.at l.fn.name.0 (exprs_in l.fn.args)) (exprs_in rest) n l.fits;
     }

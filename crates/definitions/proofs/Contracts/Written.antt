@@ -7,7 +7,7 @@ use lib.Dec.{eqb}
 use lib.ListN.{length}
 use borrow.Author.Tests.{eqb-true, eqb-false}
 use Rattle.definitions.specs.Grammar.{Class, up_to, optional, name_and_type, single, counted, listed, Pattern, done, one, many, rows}
-use Rattle.definitions.specs.Records.{pick, Item, opt, Tree, Trees, tnil, tcons, write_tree, write_trees, read_records, opt_of, kind_in, gather, treesOf}
+use Rattle.definitions.specs.Records.{pick, Item, opt, Tree, Trees, tnil, tcons, write_tree, write_trees, read_records, opt_of, kind_in, gather, trees_of}
 use Rattle.definitions.specs.ContractSheet.{expr_of, param_of, param_pair, storage_of, storage_tree, struct_of, struct_tree, function_of, function_tree, contract_of, contract_tree, read_contract, write_contract, refusal3, NothingOverlooked}
 use Rattle.definitions.proofs.Sheets.Fits.{FitItem, fit_small, fit_none, fit_some, FitItems, fit_one, fit_group}
 use Rattle.definitions.proofs.Sheets.Passed.{picked}
@@ -52,7 +52,7 @@ function_row at _ ts (hcons (fit_one (fit_small l m)) (hcons (fit_one o) (hcons 
 
 -- THE CONTRACT: its children of each kind, one kind after the other
 functions_back : {ts : Trees} → Follows Back (many Class.function done) ts
-    → (gather 2 2 storage_of ts ≡ []) × (gather 3 3 struct_of ts ≡ []) × (treesOf function_tree (gather 4 4 function_of ts) tnil ≡ ts)
+    → (gather 2 2 storage_of ts ≡ []) × (gather 3 3 struct_of ts ≡ []) × (trees_of function_tree (gather 4 4 function_of ts) tnil ≡ ts)
 unfolding again function_tree
 functions_back (end over) = (refl, refl, refl)
 functions_back (more {t = t} e r) =
@@ -61,7 +61,7 @@ functions_back (more {t = t} e r) =
     (rw k b.0, rw k b.1, rw k (ap₂ tcons e b.2))
 
 structs_back : {ts : Trees} → Follows Back (many Class.struct (many Class.function done)) ts
-    → (gather 2 2 storage_of ts ≡ []) × (treesOf struct_tree (gather 3 3 struct_of ts) (treesOf function_tree (gather 4 4 function_of ts) tnil) ≡ ts)
+    → (gather 2 2 storage_of ts ≡ []) × (trees_of struct_tree (gather 3 3 struct_of ts) (trees_of function_tree (gather 4 4 function_of ts) tnil) ≡ ts)
 unfolding again
 structs_back (end r) = let b = functions_back r in (b.0, rw b.1 b.2)
 structs_back (more {t = t} e r) =
@@ -70,7 +70,7 @@ structs_back (more {t = t} e r) =
     (rw k b.0, rw k (ap₂ tcons e b.1))
 
 fields_back : {ts : Trees} → Follows Back (many Class.storage (many Class.struct (many Class.function done))) ts
-    → treesOf storage_tree (gather 2 2 storage_of ts) (treesOf struct_tree (gather 3 3 struct_of ts) (treesOf function_tree (gather 4 4 function_of ts) tnil)) ≡ ts
+    → trees_of storage_tree (gather 2 2 storage_of ts) (trees_of struct_tree (gather 3 3 struct_of ts) (trees_of function_tree (gather 4 4 function_of ts) tnil)) ≡ ts
 unfolding again
 fields_back (end r) = let b = structs_back r in rw b.0 b.1
 fields_back (more {t = t} e r) =

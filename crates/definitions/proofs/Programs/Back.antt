@@ -11,7 +11,7 @@ use Rattle.definitions.specs.Grammar.{Class, number, Field, done, ir_type, liste
 use Rattle.definitions.specs.InstrTable.{kind_of}
 use Rattle.definitions.specs.Ir.{BasicBlock, InstrNode, Instruction, IrFunction, IrProgram, Terminator}
 use Rattle.definitions.specs.ProgramSheet.{ir_params_at, types_at, block_of, block_tree, first_of, function_name_of, function_name_tree, ir_function_of, ir_function_tree, instr_node_of, instr_of, instr_tree, opt_term_tree, param_item, program_of, program_tree, term_of, values_of}
-use Rattle.definitions.specs.Records.{pick, write_tree, write_values, num_at, type_at, Tree, Trees, gather, item, kind_in, node, opt, row, row_in, small, tcons, tnil, treesOf, ty}
+use Rattle.definitions.specs.Records.{pick, write_tree, write_values, num_at, type_at, Tree, Trees, gather, item, kind_in, node, opt, row, row_in, small, tcons, tnil, trees_of, ty}
 use Rattle.definitions.proofs.Sheets.Trees.{placed_tree, placed_trees}
 
 map_back : {A B : Type 0} (f : A → B) (g : B → A) → ((a : A) → g (f a) ≡ a) → (l : List A) → map g (map f l) ≡ l
@@ -20,15 +20,15 @@ map_back f g h (a ∷ l) = ap₂ ◌∷◌ (h a) (map_back f g h l)
 
 -- children of the kinds asked for, and others
 gather_all : {A : Type 0} (lo hi : ℕ) (f : Tree → A) (t : A → Tree) → ((a : A) → leb lo (kind_in (t a)) ≡ true) → ((a : A) → leb (kind_in (t a)) hi ≡ true)
-    → ((a : A) → f (t a) ≡ a) → (l : List A) (ts : Trees) → gather lo hi f (treesOf t l ts) ≡ l ++ gather lo hi f ts
+    → ((a : A) → f (t a) ≡ a) → (l : List A) (ts : Trees) → gather lo hi f (trees_of t l ts) ≡ l ++ gather lo hi f ts
 gather_all lo hi f t u v w [] ts = refl
 gather_all lo hi f t u v w (a ∷ l) ts = rw (u a, v a) (ap₂ ◌∷◌ (w a) (gather_all lo hi f t u v w l ts))
 
-gather_below : {A B : Type 0} (lo hi : ℕ) (f : Tree → A) (t : B → Tree) → ((b : B) → leb lo (kind_in (t b)) ≡ false) → (l : List B) (ts : Trees) → gather lo hi f (treesOf t l ts) ≡ gather lo hi f ts
+gather_below : {A B : Type 0} (lo hi : ℕ) (f : Tree → A) (t : B → Tree) → ((b : B) → leb lo (kind_in (t b)) ≡ false) → (l : List B) (ts : Trees) → gather lo hi f (trees_of t l ts) ≡ gather lo hi f ts
 gather_below lo hi f t u [] ts = refl
 gather_below lo hi f t u (b ∷ l) ts = rw (u b) (gather_below lo hi f t u l ts)
 
-gather_above : {A B : Type 0} (lo hi : ℕ) (f : Tree → A) (t : B → Tree) → ((b : B) → leb lo (kind_in (t b)) ≡ true) → ((b : B) → leb (kind_in (t b)) hi ≡ false) → (l : List B) (ts : Trees) → gather lo hi f (treesOf t l ts) ≡ gather lo hi f ts
+gather_above : {A B : Type 0} (lo hi : ℕ) (f : Tree → A) (t : B → Tree) → ((b : B) → leb lo (kind_in (t b)) ≡ true) → ((b : B) → leb (kind_in (t b)) hi ≡ false) → (l : List B) (ts : Trees) → gather lo hi f (trees_of t l ts) ≡ gather lo hi f ts
 gather_above lo hi f t u v [] ts = refl
 gather_above lo hi f t u v (b ∷ l) ts = rw (u b, v b) (gather_above lo hi f t u v l ts)
 
@@ -115,15 +115,15 @@ no_instr (some Terminator.Unreachable) = refl
 
 block_back : (b : BasicBlock) → block_of (block_tree b) ≡ b
 block_back b =
-    let p : gather 60 81 instr_node_of (treesOf instr_tree b.instrs (opt_term_tree b.terminator)) ≡ b.instrs =
+    let p : gather 60 81 instr_node_of (trees_of instr_tree b.instrs (opt_term_tree b.terminator)) ≡ b.instrs =
     gather_all 60 81 instr_node_of instr_tree (λ n. low n.instr) (λ n. high n.instr) node_back b.instrs _ ∙ rw (no_instr b.terminator) (append-nil _) in
-    let q : first_of (gather 90 93 term_of (treesOf instr_tree b.instrs (opt_term_tree b.terminator))) ≡ b.terminator =
+    let q : first_of (gather 90 93 term_of (trees_of instr_tree b.instrs (opt_term_tree b.terminator))) ≡ b.terminator =
     ap first_of (gather_below 90 93 term_of instr_tree (λ n. no_term n.instr) b.instrs _) ∙ term_back b.terminator in
     λ i. record { id = b.id; instrs = p i; terminator = q i }
 
 function_back : (f : IrFunction) → ir_function_of (ir_function_tree f) ≡ f
 function_back f =
-    let p : gather 53 53 block_of (treesOf block_tree f.blocks tnil) ≡ f.blocks =
+    let p : gather 53 53 block_of (trees_of block_tree f.blocks tnil) ≡ f.blocks =
     gather_all 53 53 block_of block_tree (λ b. refl) (λ b. refl) block_back f.blocks tnil ∙ append-nil _ in
     let a : map _ (map param_item f.params) ≡ f.params = map_back param_item _ (λ x. refl) f.params in
     let l : map _ (map ty f.locals) ≡ f.locals = map_back ty _ (λ x. refl) f.locals in
@@ -131,10 +131,10 @@ function_back f =
 
 pub program_back : (p : IrProgram) → program_of (tcons (program_tree p) tnil) ≡ p
 program_back p =
-    let fs : gather 51 51 ir_function_of (treesOf ir_function_tree p.functions (treesOf function_name_tree p.function_names tnil)) ≡ p.functions =
+    let fs : gather 51 51 ir_function_of (trees_of ir_function_tree p.functions (trees_of function_name_tree p.function_names tnil)) ≡ p.functions =
     gather_all 51 51 ir_function_of ir_function_tree (λ f. refl) (λ f. refl) function_back p.functions _
     ∙ ap (λ (x : List IrFunction). p.functions ++ x) (gather_above 51 51 ir_function_of function_name_tree (λ n. refl) (λ n. refl) p.function_names tnil) ∙ append-nil _ in
-    let ns : gather 52 52 function_name_of (treesOf ir_function_tree p.functions (treesOf function_name_tree p.function_names tnil)) ≡ p.function_names =
+    let ns : gather 52 52 function_name_of (trees_of ir_function_tree p.functions (trees_of function_name_tree p.function_names tnil)) ≡ p.function_names =
     gather_below 52 52 function_name_of ir_function_tree (λ f. refl) p.functions _
     ∙ gather_all 52 52 function_name_of function_name_tree (λ n. refl) (λ n. refl) (λ n. refl) p.function_names tnil ∙ append-nil _ in
     λ i. record { functions = fs i; function_names = ns i }

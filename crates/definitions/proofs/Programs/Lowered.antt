@@ -12,7 +12,7 @@ use Rattle.definitions.specs.Fields.{bytes}
 use Rattle.definitions.specs.Ir.{BasicBlock, InstrNode, Instruction, IrFunction, IrProgram, IrType, Terminator, find, local_read, local_written, operands}
 use Rattle.definitions.specs.Lower.{function_names, lower_contract, lower_function, lower_functions, set_name}
 use Rattle.definitions.specs.ProgramSheet.{block_tree, function_name_tree, ir_function_tree, instr_tree, opt_term_tree, param_item, write_program}
-use Rattle.definitions.specs.Records.{Item, Tree, Trees, FieldValue, group, node, tnil, treesOf, write_item, write_items, write_tree, write_trees, write_value, write_values}
+use Rattle.definitions.specs.Records.{Item, Tree, Trees, FieldValue, group, node, tnil, trees_of, write_item, write_items, write_tree, write_trees, write_value, write_values}
 use Rattle.definitions.specs.Result.{ok}
 use Rattle.definitions.specs.Run.{term_reads}
 use Rattle.definitions.specs.Verify.{block_ids}
@@ -32,7 +32,7 @@ abbrev sum : {A : Type 0} → (A → ℕ) → List A → ℕ
 sum w [] = 0
 sum w (a ∷ l) = w a + sum w l
 
-trees_length : {A : Type 0} (t : A → Tree) (w : A → ℕ) → ((a : A) → w a ≤ length (write_tree (t a))) → (l : List A) (ts : Trees) → sum w l + length (write_trees ts) ≤ length (write_trees (treesOf t l ts))
+trees_length : {A : Type 0} (t : A → Tree) (w : A → ℕ) → ((a : A) → w a ≤ length (write_tree (t a))) → (l : List A) (ts : Trees) → sum w l + length (write_trees ts) ≤ length (write_trees (trees_of t l ts))
 unfolding write_tree
 trees_length t w h [] ts = omega arith
 trees_length t w h (a ∷ l) ts = rw length-append (omega (arith, h a, trees_length t w h l ts))
@@ -79,7 +79,7 @@ values_long a b c is vs n h = simp length-append (omega arith)
 node_weighs : (at k : ℕ) (vs : List FieldValue) (ts : Trees) (m n : ℕ) → m ≤ length (write_values vs) → n ≤ length (write_trees ts) → m + n ≤ length (write_tree (node at k vs ts))
 node_weighs at k vs ts m n g h = omega (arith, node_length at k vs ts)
 
-blocks_long : (bs : List BasicBlock) → length (defs bs) ≤ length (write_trees (treesOf block_tree bs tnil))
+blocks_long : (bs : List BasicBlock) → length (defs bs) ≤ length (write_trees (trees_of block_tree bs tnil))
 blocks_long bs = omega (arith, defs_sum bs, trees_length block_tree block_weight block_length bs tnil)
 
 fn_length : (g : IrFunction) → fn_weight g ≤ length (write_tree (ir_function_tree g))
@@ -92,7 +92,7 @@ all_below w n (a ∷ l) h = let k : w a ≤ n = omega arith in acons k (all_belo
 
 program_length : (p : IrProgram) → sum fn_weight p.functions ≤ length (write_program p)
 unfolding write_program
-program_length p = rw node_length (omega (arith, trees_length ir_function_tree fn_weight fn_length p.functions (treesOf function_name_tree p.function_names tnil)))
+program_length p = rw node_length (omega (arith, trees_length ir_function_tree fn_weight fn_length p.functions (trees_of function_name_tree p.function_names tnil)))
 
 -- THE NUMBERS OF A FUNCTION
 all_ids : (n : ℕ) (l : List ℕ) → ((v : ℕ) → In v l → v < 65535) → All Id l
@@ -127,7 +127,7 @@ rest_low : (r : Option ℕ) (vs : List ℕ) → ((v : ℕ) → In v (with_result
 rest_low none vs k v i = k v i
 rest_low (some x) vs k v i = k v (there i)
 
-module _ (F L : ℕ) (hF : F ≤ 65535) (hL : L ≤ 65535) where
+module _ (F L : ℕ) (h_f : F ≤ 65535) (h_l : L ≤ 65535) where
   nodes_fit : (H W : List ℕ) (ns : List InstrNode) → Ok F L H W ns → All NodeFits ns → ((v : ℕ) → In v H → v < 65535) → ((v : ℕ) → In v (results ns) → v < 65535) → All FitsNode ns
   nodes_fit H W [] o c h k = anil
   nodes_fit H W (n ∷ ns) o (acons p c) h k =
@@ -167,11 +167,11 @@ params_fit : (ps : List (ℕ × IrType)) → ((v : ℕ) → In v (ids ps) → v 
 params_fit [] h c = anil
 params_fit (p ∷ ps) h (acons t c) = acons (h p.0 (here refl), t) (params_fit ps (λ v i. h v (there i)) c)
 
-module _ (F : ℕ) (hF : F ≤ 65535) (g : IrFunction) (hL : length g.locals ≤ 65535) (G : GoodFn F g) (code : All CodeFits g.blocks) (low : (v : ℕ) → In v (ids g.params) → v < 65535) where
+module _ (F : ℕ) (h_f : F ≤ 65535) (g : IrFunction) (h_l : length g.locals ≤ 65535) (G : GoodFn F g) (code : All CodeFits g.blocks) (low : (v : ℕ) → In v (ids g.params) → v < 65535) where
   block_fits : (b : BasicBlock) → BlockOk F (length g.locals) G.cert G.count (ids g.params) b → CodeFits b → ((v : ℕ) → In v (results b.instrs) → v < 65535) → FitsBlock b
   block_fits b o c k =
       let h : (v : ℕ) → In v (entry_held (ids g.params) b.id) → v < 65535 = entry_low (ids g.params) b.id low in
-      record { id = omega (arith, c.0); instrs = nodes_fit F (length g.locals) hF hL _ _ b.instrs o.code c.1 h k; terminator = go b.terminator refl h }
+      record { id = omega (arith, c.0); instrs = nodes_fit F (length g.locals) h_f h_l _ _ b.instrs o.code c.1 h k; terminator = go b.terminator refl h }
     where
       go : (t : Option Terminator) → b.terminator ≡ t → ((v : ℕ) → In v (entry_held (ids g.params) b.id) → v < 65535) → FitsTerm t
       go none e h = tt
@@ -188,15 +188,15 @@ module _ (K : Contract) (S : Small K) where
       made O j =
           let low : (v : ℕ) → In v (ids g.params) → v < 65535 = (λ v h. omega (arith, O.params_low v h, O.few_params)) in
           let high : (v : ℕ) → In v (defs g.blocks) → v < 65535 = (λ v h. omega (arith, O.values_low v h, O.few, O.few_params)) in
-          let hF : fns K ≤ 65535 = omega (arith, S.count) in
-          let hL : length g.locals ≤ 65535 = omega (arith, j.local_count) in
+          let h_f : fns K ≤ 65535 = omega (arith, S.count) in
+          let h_l : length g.locals ≤ 65535 = omega (arith, j.local_count) in
           record {
             id = rw O.id hi;
             name = rw j.name s.name;
             params = params_fit g.params low j.typed;
             param_count = omega arith;
             ret_ty = j.ret_ty;
-            blocks = every _ CodeFits FitsBlock (block_fits (fns K) hF g hL O.good j.code low) g.blocks O.blocks_distinct O.good.each j.code high;
+            blocks = every _ CodeFits FitsBlock (block_fits (fns K) h_f g h_l O.good j.code low) g.blocks O.blocks_distinct O.good.each j.code high;
             locals = j.locals;
             local_count = omega (arith, j.local_count);
           }

@@ -10,7 +10,7 @@ use lib.ListN.{length, length-map}
 use Rattle.definitions.specs.Grammar.{number, Class, Entry, Pattern, done, ir_type, listed, many, one, optional, origin, perhaps, rows, single, up_to, value_and_type}
 use Rattle.definitions.specs.Ir.{BasicBlock, InstrNode, Instruction, IrFunction, IrProgram, IrType, Terminator}
 use Rattle.definitions.specs.ProgramSheet.{block_tree, function_name_tree, ir_function_tree, instr_tree, no_origin, opt_term_tree, param_item, program_of, program_tree, read_program, refusal40, values_of, write_program}
-use Rattle.definitions.specs.Records.{Good, Item, Tree, Trees, after, check_records, item, left, may_end, opt, read_records, rest, row_in, size_of, small, tcons, tnil, treesOf, ty, word, write_tree}
+use Rattle.definitions.specs.Records.{Good, Item, Tree, Trees, after, check_records, item, left, may_end, opt, read_records, rest, row_in, size_of, small, tcons, tnil, trees_of, ty, word, write_tree}
 use Rattle.definitions.proofs.Sheets.Fits.{FitItem, fit_small, fit_none, fit_some, fit_raw, fit_type, fit_param, FitItems, no_item, and_item, FitValue, fit_one, fit_group, FitValues, no_value, and_value, last_rest, FitTree, fit_node, FitTrees, no_tree, and_tree}
 use Rattle.definitions.specs.All.{All, anil, acons}
 use Rattle.definitions.proofs.Programs.Fits.{Id, FitsType, FitsOpt, FitsInstr, FitsTerm, FitsNode, FitsBlock, FitsFunction, Fits}
@@ -69,7 +69,7 @@ node_fits n h = fit_node (row_is n.instr) (kind_fits n.instr) (and_value origin_
 
 -- a list of records under a pattern: q before the first, q' after it
 trees_fit : {A : Type 0} {P : A → Type 0} (c : Class) (t : A → Tree) (q q' : Pattern) → after q c ≡ left q' → after q' c ≡ left q' → ((a : A) → P a → FitTree c (t a))
-    → {l : List A} {ts : Trees} → All P l → FitTrees q ts → FitTrees q' ts → FitTrees q (treesOf t l ts)
+    → {l : List A} {ts : Trees} → All P l → FitTrees q ts → FitTrees q' ts → FitTrees q (trees_of t l ts)
 trees_fit c t q q' e e' f anil u u' = u
 trees_fit c t q q' e e' f (acons {a} p ps) u u' = and_tree e (f a p) (trees_fit c t q' q' e' e' f ps u' u')
 
@@ -109,7 +109,7 @@ program_fits : (p : IrProgram) → Fits p → FitTrees (one Class.program done) 
 unfolding after may_end rows row_in
 program_fits p h =
     let fs : Pattern = many Class.ir_function (many Class.function_name done) in
-    let ns : FitTrees (many Class.ir_function (many Class.function_name done)) (treesOf function_name_tree p.function_names tnil) =
+    let ns : FitTrees (many Class.ir_function (many Class.function_name done)) (trees_of function_name_tree p.function_names tnil) =
     trees_fit Class.function_name function_name_tree (many Class.ir_function (many Class.function_name done)) (many Class.function_name done) refl refl naming_fits h.function_names (no_tree refl) (no_tree refl) in
     and_tree refl (fit_node refl (lit< tt) no_value
     (trees_fit Class.ir_function ir_function_tree (many Class.ir_function (many Class.function_name done)) (many Class.ir_function (many Class.function_name done)) refl refl function_fits h.functions ns ns)) (no_tree refl)

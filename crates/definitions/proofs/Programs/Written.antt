@@ -8,7 +8,7 @@ use lib.Dec.{leb}
 use lib.ListN.{length}
 use Rattle.definitions.specs.Grammar.{Class, up_to, ir_type, value_and_type, single, counted, Field, Pattern, done, one, perhaps, many, origin, rows}
 use Rattle.definitions.specs.Ir.{Instruction, Terminator}
-use Rattle.definitions.specs.Records.{Item, small, ty, number_of, type_of, Tree, node, Trees, tnil, tcons, write_record, write_tree, write_trees, write_values, read_records, kind_in, gather, treesOf}
+use Rattle.definitions.specs.Records.{Item, small, ty, number_of, type_of, Tree, node, Trees, tnil, tcons, write_record, write_tree, write_trees, write_values, read_records, kind_in, gather, trees_of}
 use Rattle.definitions.specs.ProgramSheet.{no_origin, instr_tree, term_tree, opt_term_tree, block_tree, param_item, ir_function_tree, function_name_tree, program_tree, write_program, instr_node_of, term_of, first_of, block_of, ir_function_of, function_name_of, program_of, read_program, refusal40, NothingOverlookedInPrograms}
 use Rattle.definitions.proofs.Sheets.Fits.{FitItems, fit_raw, fit_one}
 use Rattle.definitions.proofs.Sheets.Reads.{hcons}
@@ -127,7 +127,7 @@ term_kind Terminator.Unreachable = (refl, refl, refl, refl)
 
 -- BLOCKS: instructions, then at most one terminator
 block_back : {ts : Trees} → Follows Back (many Class.instruction (perhaps Class.terminator done)) ts
-    → treesOf instr_tree (gather 60 81 instr_node_of ts) (opt_term_tree (first_of (gather 90 93 term_of ts))) ≡ bare_trees ts
+    → trees_of instr_tree (gather 60 81 instr_node_of ts) (opt_term_tree (first_of (gather 90 93 term_of ts))) ≡ bare_trees ts
 unfolding again bare_tree
 block_back (end (skip over)) = refl
 block_back (end (take {t = t} e over)) =
@@ -142,7 +142,7 @@ unfolding again bare_tree
 block_row at v ts h f = shaped (λ w. Back Class.basic_block (node at 53 w ts)) h (λ n. rw (block_back f))
 
 -- FUNCTIONS, THEIR NAMES, THE PROGRAM
-blocks_back : {ts : Trees} → Follows Back (many Class.basic_block done) ts → treesOf block_tree (gather 53 53 block_of ts) tnil ≡ bare_trees ts
+blocks_back : {ts : Trees} → Follows Back (many Class.basic_block done) ts → trees_of block_tree (gather 53 53 block_of ts) tnil ≡ bare_trees ts
 unfolding again bare_tree
 blocks_back (end over) = refl
 blocks_back (more {t = t} e r) = rw (kind_is Class.basic_block t e) (ap₂ tcons e (blocks_back r))
@@ -151,7 +151,7 @@ function_row : Remade Class.ir_function 51 (single (up_to 65534) ∷ single (up_
 unfolding again bare_tree
 function_row at v ts h f = shaped (λ w. Back Class.ir_function (node at 51 w ts)) h (λ i n t ps p ls l. rw (params_back p, types_back l, blocks_back f))
 
-names_back : {ts : Trees} → Follows Back (many Class.function_name done) ts → (gather 51 51 ir_function_of ts ≡ []) × (treesOf function_name_tree (gather 52 52 function_name_of ts) tnil ≡ bare_trees ts)
+names_back : {ts : Trees} → Follows Back (many Class.function_name done) ts → (gather 51 51 ir_function_of ts ≡ []) × (trees_of function_name_tree (gather 52 52 function_name_of ts) tnil ≡ bare_trees ts)
 unfolding again bare_tree
 names_back (end over) = (refl, refl)
 names_back (more {t = t} e r) =
@@ -160,7 +160,7 @@ names_back (more {t = t} e r) =
     (rw k b.0, rw k (ap₂ tcons e b.1))
 
 functions_back : {ts : Trees} → Follows Back (many Class.ir_function (many Class.function_name done)) ts
-    → treesOf ir_function_tree (gather 51 51 ir_function_of ts) (treesOf function_name_tree (gather 52 52 function_name_of ts) tnil) ≡ bare_trees ts
+    → trees_of ir_function_tree (gather 51 51 ir_function_of ts) (trees_of function_name_tree (gather 52 52 function_name_of ts) tnil) ≡ bare_trees ts
 unfolding again bare_tree
 functions_back (end r) = let b = names_back r in rw b.0 b.1
 functions_back (more {t = t} e r) = rw (kind_is Class.ir_function t e) (ap₂ tcons e (functions_back r))

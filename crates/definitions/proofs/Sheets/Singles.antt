@@ -10,7 +10,7 @@ use borrow.Author.Tests.{leb-true}
 use Rattle.definitions.specs.Fields.{le}
 use Rattle.definitions.specs.Grammar.{Class, Entry, Field, single, counted, Pattern, origin, origin_width}
 use Rattle.definitions.specs.Records.{FieldValue, item, size_of, ok_item, ok_items, read_item, field_end, ok_field, read_value, past_all, fields_end, read_values}
-use Rattle.definitions.specs.Fine.{Head, own_start}
+use Rattle.definitions.specs.Fine.{Head, fields_start}
 use Rattle.definitions.specs.ProgramSheet.{own_of}
 use Rattle.definitions.proofs.Sheets.Passed.{both_true, counted_ok, first_past, all_past}
 
@@ -60,17 +60,17 @@ starts {s = s} {at = at} {b = b} {stop = stop} es fs hd =
 
 -- the same of an instruction or terminator that passed, by its own fields
 pub record Own (es : List Entry) (fs : List Field) (s : List ℕ) (at b stop : ℕ) : Type 0 where
-  pub values : own_of (read_values (origin ∷ (map single es ++ fs)) s stop (at + 6)) ≡ items_from es s at own_start ++ read_values fs s stop (at + after es own_start)
-  pub valid : Valid es s at own_start
-  pub fits : at + after es own_start ≤ stop
+  pub values : own_of (read_values (origin ∷ (map single es ++ fs)) s stop (at + 6)) ≡ items_from es s at fields_start ++ read_values fs s stop (at + after es fields_start)
+  pub valid : Valid es s at fields_start
+  pub fits : at + after es fields_start ≤ stop
 
 pub own : {c : Class} {p : Pattern} {s : List ℕ} {at end b stop : ℕ} (es : List Entry) (fs : List Field) → Head s at end c (origin ∷ (map single es ++ fs)) p b stop → Own es fs s at b stop
 unfolding ok_field field_end read_values size_of
 own {s = s} {at = at} {b = b} {stop = stop} es fs hd =
     let p = first_past origin (map single es ++ fs) s stop (at + 6) hd.valid in
     let f : origin_width ≤ stop - (at + 6) = leb-true _ _ (both_true (leb origin_width (stop - (at + 6))) _ p.0).0 in
-    let w : at + 6 + origin_width ≡ at + own_start = omega arith in
-    let S : Singles es fs s stop at own_start b = singles es fs s stop at own_start (rw w at p.1) (omega (arith, hd.low, hd.mid)) in
+    let w : at + 6 + origin_width ≡ at + fields_start = omega arith in
+    let S : Singles es fs s stop at fields_start b = singles es fs s stop at fields_start (rw w at p.1) (omega (arith, hd.low, hd.mid)) in
     record { values = rw w S.values; valid = S.valid; fits = S.fits }
 
 -- a list with a count, and then the others

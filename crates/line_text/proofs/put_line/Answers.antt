@@ -8,4 +8,4 @@ pub returns : goal.returns
 returns c =
     let p = c.put_numbers-end in
     let b = p.ensures in
-    filled _ p.new.out _ p.result _ (b.front ∙ ap line_of c.as_slice.ensures.is) b.same_length (omega (arith, b.short, c.requires)) c.clear.ensures
+    filled _ p.new.text _ p.result _ (b.front ∙ ap line_of c.as_slice.ensures.is) b.same_length (omega (arith, b.short, c.requires)) c.clear.ensures

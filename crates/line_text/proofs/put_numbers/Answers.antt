@@ -7,7 +7,7 @@ use Rattle.line_text.proofs.put_numbers.Goals as goal
 pub returns-in_default : goal.returns-in_default
 returns-in_default c =
     let none : length c.args.numbers.now ≡ 0 = c.in_default.ensures.cases in
-    rw c.copy_from_slice.ensures.after (ok_line c.args.numbers.now c.args.out.now none c.requires.1)
+    rw c.copy_from_slice.ensures.after (ok_line c.args.numbers.now c.args.text.now none c.requires.1)
 
 pub loop-detail-init : goal.loop-detail-init
 loop-detail-init c =
@@ -19,10 +19,10 @@ pub loop-detail-preserved : goal.loop-detail-preserved
 loop-detail-preserved c =
     let l = c.loop-detail in
     let p = c.put_digits-at-in-loop-detail.ensures in
-    let room : l.at < length l.out = omega (arith, c.in-Some.ensures.cases.1, c.loop-detail-test.true, l.invariant.0, l.invariant.1) in (
+    let room : l.at < length l.text = omega (arith, c.in-Some.ensures.cases.1, c.loop-detail-test.true, l.invariant.0, l.invariant.1) in (
       omega (arith, p.high, l.invariant.0),
-      p.same_length ∙ length-set l.out l.at 32 ∙ l.invariant.1,
-      rw (p.front, take_more_set l.out l.at 32 room) (next _ c.in-Some.details.now (take l.at l.out) l.detail-index c.loop-detail-test.true l.invariant.2),
+      p.same_length ∙ length-set l.text l.at 32 ∙ l.invariant.1,
+      rw (p.front, take_more_set l.text l.at 32 room) (next _ c.in-Some.details.now (take l.at l.text) l.detail-index c.loop-detail-test.true l.invariant.2),
     )
 
 pub returns : goal.returns
@@ -31,7 +31,7 @@ returns c =
     let details = c.in-Some.details.now in
     let few : length details + 1 ≤ 6 = omega (arith, c.in-Some.ensures.cases.1, c.requires.0) in
     record {
-      front = last _ details l.out l.at l.detail-index (omega (arith, few, l.invariant.0)) (omega (arith, c.loop-detail-test.false)) l.invariant.2;
-      same_length = length-set l.out l.at 10 ∙ l.invariant.1;
+      front = last _ details l.text l.at l.detail-index (omega (arith, few, l.invariant.0)) (omega (arith, c.loop-detail-test.false)) l.invariant.2;
+      same_length = length-set l.text l.at 10 ∙ l.invariant.1;
       short = omega (arith, few, l.invariant.0);
     }

@@ -5,4 +5,4 @@ use Rattle.line_text.proofs.Spaced.{Goes}
 use Rattle.line_text.proofs.put_numbers.Given as goal
 
 abbrev pub invariant-loop-detail : goal.invariant-loop-detail
-invariant-loop-detail l = (l.at + 1 ≤ 21 * (l.detail-index + 1)) × (length l.out ≡ length l.fn.out) × Goes (line_of l.fn.numbers) l.details (take l.at l.out) l.detail-index
+invariant-loop-detail l = (l.at + 1 ≤ 21 * (l.detail-index + 1)) × (length l.text ≡ length l.fn.text) × Goes (line_of l.fn.numbers) l.details (take l.at l.text) l.detail-index

@@ -12,7 +12,7 @@ lower_call-loop-arg-init t c =
     rw c.into_iter-arg-iterator.ensures.into_iter_gives (record {
       sheet = refl;
       depth = refl;
-      left = call_starts _ _ c.args.name.0 _ c.args.ctx.now c.len.ensures c.requires c.in_ok-callee.ensures c.in_default.not-Context c.new-values.ensures;
+      left = call_starts _ _ c.args.name.0 _ c.args.ctx.now c.len.ensures c.requires c.in_ok-called.ensures c.in_default.not-Context c.new-values.ensures;
     })
 
 pub lower_call-returns-in_err-value : goal.lower_call-returns-in_err-value

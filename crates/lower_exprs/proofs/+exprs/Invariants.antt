@@ -23,5 +23,5 @@ abbrev pub invariant-lower_call-loop-arg : goal.invariant-lower_call-loop-arg
 invariant-lower_call-loop-arg l = record {
   sheet : l.arg-iterator.contract.sheet.now ≡ l.fn.args.contract.sheet.now;
   depth : l.arg-iterator.depth ≡ l.fn.args.depth;
-  left : Going (contract_in l.fn.args.contract) l.scopes.held (finish_call (called_of l.callee)) (call_of (contract_in l.fn.args.contract) l.scopes.held l.fn.name.0 (exprs_in l.fn.args) l.fn.ctx.log) l.fn.ctx (exprs_in l.arg-iterator) l.values l.ctx;
+  left : Going (contract_in l.fn.args.contract) l.scopes.held (finish_call (called_of l.called)) (call_of (contract_in l.fn.args.contract) l.scopes.held l.fn.name.0 (exprs_in l.fn.args) l.fn.ctx.log) l.fn.ctx (exprs_in l.arg-iterator) l.values l.ctx;
 }

@@ -14,11 +14,11 @@ lower_for-lower_stmts-done-requires t c =
 
 pub lower_for-returns-in_err-done-clause-same_names : goal.lower_for-returns-in_err-done-clause-same_names
 lower_for-returns-in_err-done-clause-same_names t c =
-    same_behind c.push_scope.ensures (extends_on (one_more c.declare.ensures) c.lower_stmts-done.ensures.names) c.len-before.ensures c.pop_scope.ensures
+    same_behind c.push_scope.ensures (extends_on (one_more c.declare.ensures) c.lower_stmts-done.ensures.names) c.len-mark.ensures c.pop_scope.ensures
 
 pub lower_for-returns-clause-same_names : goal.lower_for-returns-clause-same_names
 lower_for-returns-clause-same_names t c =
-    same_behind c.push_scope.ensures (extends_on (one_more c.declare.ensures) c.lower_stmts-done.ensures.names) c.len-before.ensures c.pop_scope.ensures
+    same_behind c.push_scope.ensures (extends_on (one_more c.declare.ensures) c.lower_stmts-done.ensures.names) c.len-mark.ensures c.pop_scope.ensures
 
 -- A STATEMENT (with `unfolding(walk_stmt)` on the function, tried, the arms stay open in which a call's promise speaks of walk_stmt itself)
 pub lower_stmt-returns-in_ok-local-in-Let-clause-names : goal.lower_stmt-returns-in_ok-local-in-Let-clause-names
@@ -30,7 +30,7 @@ lower_stmt-returns-in-MappingWrite-clause-is t c = rw c.in-MappingWrite.ensures.
 
 pub lower_stmt-returns-in-If-clause-is : goal.lower_stmt-returns-in-If-clause-is
 lower_stmt-returns-in-If-clause-is t c =
-    rw c.lower_if.ensures.same_names (c.lower_if.ensures.is ∙ if_walk c.in-If.ensures.is c.in-If.ensures.parts.0.0 _ _ _)
+    rw c.lower_if.ensures.same_names (c.lower_if.ensures.is ∙ if_walk c.in-If.ensures.is c.in-If.ensures.parts.0.0 _ _)
 
 pub lower_stmt-returns-in-Return-clause-is : goal.lower_stmt-returns-in-Return-clause-is
 lower_stmt-returns-in-Return-clause-is t c =

@@ -12,7 +12,7 @@ loop-i-init c = begun c.self.invariant c.chain_of-chain.ensures
 pub returns-then-eq : goal.returns-then-eq
 returns-then-eq c =
     hit c.self.invariant c.loop-i.invariant c.in-Some.ensures (search (rules, tests))
-    ∙ ap (get c.args.name.0) (names_are c.self.inside.entries.now c.self.inside.count c.self.view_is)
+    ∙ ap (get c.args.name.0) (names_are c.self.inside.bindings.now c.self.inside.count c.self.view_is)
 
 pub loop-i-smaller : goal.loop-i-smaller
 loop-i-smaller c = falls c.self.invariant c.loop-i.invariant c.in-Some.ensures
@@ -24,4 +24,4 @@ loop-i-preserved c =
 pub returns : goal.returns
 returns c =
     none_left c.loop-i.invariant c.in_default.ensures
-    ∙ ap (get c.args.name.0) (names_are c.self.inside.entries.now c.self.inside.count c.self.view_is)
+    ∙ ap (get c.args.name.0) (names_are c.self.inside.bindings.now c.self.inside.count c.self.view_is)

@@ -1,4 +1,4 @@
--- `analyze_env::Env::truncate`: the newest entry's chain gets back the head from before it. Assumes nothing. `reaches` gets the entries each time: the view
+-- `analyze_env::Env::truncate`: the newest binding's chain gets back the head from before it. Assumes nothing. `reaches` gets the bindings each time: the view
 -- shows them only where it is unfolded.
 use Prim.Native.Nat.{◌-◌}
 use native.Mathlib.Omega.{arith}
@@ -9,10 +9,10 @@ use Rattle.analyze_env.proofs.Env.truncate.Goals as goal
 pub offset_bounds-self-inside-mark : goal.offset_bounds-self-inside-mark
 offset_bounds-self-inside-mark c =
     let i = c.self.inside in
-    record { fits = omega (arith, c.self.invariant.room, c.self.invariant.short, reaches i.entries.now i.count c.self.view_is c.requires) }
+    record { fits = omega (arith, c.self.invariant.room, c.self.invariant.short, reaches i.bindings.now i.count c.self.view_is c.requires) }
 
 pub slice_bounds-going-count : goal.slice_bounds-going-count
-slice_bounds-going-count c = reaches c.self.inside.entries.now c.self.inside.count c.self.view_is c.requires
+slice_bounds-going-count c = reaches c.self.inside.bindings.now c.self.inside.count c.self.view_is c.requires
 
 pub slice_bounds-going-start : goal.slice_bounds-going-start
 slice_bounds-going-start c = slice_bounds-going-count c
@@ -26,11 +26,11 @@ loop-e-preserved c = newest_undone c.loop-e.invariant _ _ c.in-Some.ensures.step
 pub invariant_of-self : goal.invariant_of-self
 invariant_of-self c =
     let i = c.self.inside in
-    rw (put_same c.args.mark (i.count - c.args.mark) i.entries.now)
-    (all_undone c.loop-e.invariant c.self.invariant (reaches i.entries.now i.count c.self.view_is c.requires)
+    rw (put_same c.args.mark (i.count - c.args.mark) i.bindings.now)
+    (all_undone c.loop-e.invariant c.self.invariant (reaches i.bindings.now i.count c.self.view_is c.requires)
     (rw (c.into_iter-e-iterator.ensures.into_iter_gives, c.rev-e-items.ensures.source) c.iter.ensures.rest) c.in-None.ensures.steps.0)
 
 pub returns : goal.returns
 returns c =
     let i = c.self.inside in
-    rw (put_same c.args.mark (i.count - c.args.mark) i.entries.now) (cut i.entries.now i.count c.self.view_is c.args.mark c.requires)
+    rw (put_same c.args.mark (i.count - c.args.mark) i.bindings.now) (cut i.bindings.now i.count c.self.view_is c.args.mark c.requires)

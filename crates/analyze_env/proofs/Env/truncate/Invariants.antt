@@ -1,4 +1,4 @@
--- `analyze_env::Env::truncate`: the newest entry's chain gets back the head from before it. Assumes nothing.
+-- `analyze_env::Env::truncate`: the newest binding's chain gets back the head from before it. Assumes nothing.
 use Rattle.std.specs.Iterator.Adapters.{rev_source}
 use Rattle.std.specs.Slice.Iter.{iter_rest}
 use Rattle.analyze_env.proofs.Chains.{Undoing}

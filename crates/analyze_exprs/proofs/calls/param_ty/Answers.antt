@@ -3,7 +3,7 @@ use mathlib.Core.Path.{ap, ◌∙◌}
 use native.Mathlib.Omega.{arith}
 use Rattle.definitions.specs.Analyze.{known}
 use Rattle.contract_nodes.specs.Nodes.{function_in}
-use Rattle.analyze_exprs.proofs.CalleeSteps.{u64_there, past_u64s, type_there, past_params, param_of, built_in, declared}
+use Rattle.analyze_exprs.proofs.SignatureSteps.{u64_there, past_u64s, type_there, past_params, param_of, built_in, declared}
 use Rattle.analyze_exprs.proofs.calls.param_ty.Goals as goal
 
 pub returns-in-Some-BuiltIn : goal.returns-in-Some-BuiltIn

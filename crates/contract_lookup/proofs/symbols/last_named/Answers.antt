@@ -1,14 +1,14 @@
 -- `contract_lookup::symbols::last_named`: the walk goes on from the record at `at`. Assumes nothing.
 use mathlib.Core.Path.{refl, sym, ◌∙◌}
 use native.Mathlib.Omega.{arith}
-use Rattle.format.specs.Kinds.{item_number}
+use Rattle.format.specs.Kinds.{declaration_number}
 use Rattle.std.specs.Prelude.{None}
 use Rattle.contract_lookup.proofs.Lasts.{same_name, other_name, kind_is, kind_not, kind_past, at_place, begun, walked, stopped, top_at, other_kind, has_name, has_not, this_kind, moved}
 use Rattle.contract_lookup.proofs.symbols.last_named.Goals as goal
 use Rattle.contract_lookup.proofs.symbols.last_named.Goals.{then-here-wanted, else-here-wanted, then-eq, else-eq}
 
 pub loop-at-init : goal.loop-at-init
-loop-at-init c = begun c.args.contract.sheet.now (item_number c.args.kind) c.args.name.0 c.args.contract.passed
+loop-at-init c = begun c.args.contract.sheet.now (declaration_number c.args.kind) c.args.name.0 c.args.contract.passed
 
 pub returns-then-wanted-here : goal.returns-then-wanted-here
 returns-then-wanted-here c =

@@ -13,7 +13,7 @@ use Rattle.machine_outside.proofs.steps.step_context_read.Goals as goal
 context_is : (k : ContextKind) (c : Context) (lent : Lent) → LendsContext c lent → context_of k c ≡ context_word (context_number k) lent
 context_is kind.MsgSender c lent L = sym L.sender_is
 context_is kind.MsgNonce c lent L = sym L.nonce_is
-context_is kind.BlockNumber c lent L = sym L.height_is
+context_is kind.BlockNumber c lent L = sym L.block_number_is
 
 pub returns : goal.returns
 unfolding step_instr

@@ -8,9 +8,9 @@ use Rattle.machine_outside.proofs.steps.step_load.Goals as goal
 
 pub returns-in_err-_word-clause-does : goal.returns-in_err-_word-clause-does
 unfolding step_instr
-returns-in_err-_word-clause-does c ty o state =
+returns-in_err-_word-clause-does c ty offset state =
     stops (halts_by _ c.in_err-_word.ensures.value c.from_residual.ensures.1) (λ lent frames block depth m R. rw (value_is R _ c.value.ensures c.in_err-_word.ensures.ok_part))
 
 pub returns-clause-does : goal.returns-clause-does
 unfolding step_instr taken_into
-returns-clause-does c ty o state = taken c.take_outside.ensures.does (λ lent frames block depth m R. rw (value_is R _ c.value.ensures c.in_ok-_word.ensures.ok_part))
+returns-clause-does c ty offset state = taken c.take_outside.ensures.does (λ lent frames block depth m R. rw (value_is R _ c.value.ensures c.in_ok-_word.ensures.ok_part))

@@ -1,10 +1,10 @@
 -- `sheet::records::after`: what is left of the pattern decides. Assumes nothing.
 use Rattle.std.proofs.Common.{◌≡◌, ◌∙◌, Bool, true, false, sym, rules, arith}
 use denote.Enum.Bare.{sameb, same_true, same_false}
-use Rattle.sheet.specs.contracts.tables.Class as classes
-use Rattle.sheet.specs.contracts.tables.Often as oftens
-use Rattle.sheet.specs.declared.tables.Class.{Class}
-use Rattle.sheet.specs.declared.tables.Often.{Often}
+use Rattle.sheet_rows.specs.contracts.tables.Class as classes
+use Rattle.sheet_rows.specs.contracts.tables.Often as oftens
+use Rattle.sheet_rows.specs.declared.tables.Class.{Class}
+use Rattle.sheet_rows.specs.declared.tables.Often.{Often}
 use Rattle.sheet.proofs.Patterns.{over, stays, leaves, refuses, seeks}
 use Rattle.sheet.proofs.records.after.Goals as goal
 use Rattle.sheet.proofs.records.after.Goals.{then-eq-2, else-eq-2}

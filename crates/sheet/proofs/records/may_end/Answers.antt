@@ -2,7 +2,7 @@
 use Rattle.std.proofs.Common.{rules}
 use borrow.Author.Tests.{tests}
 use Rattle.std.proofs.lemmas.Iterator.{cases_from_all, YieldsList-from_slice}
-use Rattle.sheet.proofs.Lists.{Spared, Needed, ends}
+use Rattle.sheet.proofs.Ends.{Spared, Needed, ends}
 use Rattle.sheet.proofs.records.may_end.Goals as goal
 
 pub returns : goal.returns

@@ -1,7 +1,7 @@
 -- `sheet::records::row_at`: a number that is no kind has no row. Assumes nothing.
 use Rattle.std.proofs.Common.{rules}
-use Rattle.sheet.specs.Tables.{row_at}
-use Rattle.sheet.proofs.Rows.{unknown}
+use Rattle.sheet.specs.Starts.{row_at}
+use Rattle.sheet_rows.proofs.Rows.{unknown}
 use Rattle.sheet.proofs.records.row_at.Goals as goal
 
 pub returns-in_err-kind : goal.returns-in_err-kind

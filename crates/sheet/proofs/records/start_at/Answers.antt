@@ -2,7 +2,7 @@
 use Rattle.std.proofs.Common.{ℕ, ◌+◌, ap, arith}
 use Rattle.definitions.proofs.Results.{told}
 use Rattle.ir.specs.Answers.{option_of}
-use Rattle.sheet.specs.Tables.{row_found, next_of}
+use Rattle.sheet.specs.Starts.{row_found, next_of}
 use Rattle.sheet.proofs.Heads.{shut, fitting, no_record, not_allowed, not_valid, begun}
 use Rattle.sheet.proofs.records.start_at.Goals as goal
 

@@ -2,7 +2,7 @@ use mathlib.Core.Path.{◌≡◌, ap₂, sym, ◌∙◌}
 use Prim.Native.Nat.{ℕ, ◌+◌, ◌*◌}
 use native.Mathlib.Omega.{arith}
 use lib.ListN.{length}
-use Rattle.contract_nodes.specs.Ready.{stmts_from}
+use Rattle.contract_nodes.specs.Ready.{stmts_from, top_depth}
 use Rattle.contract_nodes.specs.Nodes.{function_in}
 use Rattle.contract_nodes.specs.declared.contract.Function.{Function}
 use Rattle.contract_nodes.proofs.Standing.{ready}
@@ -15,7 +15,7 @@ from_is : (f : Function) {n : ℕ} → n ≡ length (function_in f).params → f
 from_is f e = omega (arith, e, params_count (function_here f))
 
 pub read-requires : goal.read-requires
-read-requires c = size_fits (ready {d = 39} c.args.self.ready)
+read-requires c = size_fits (ready {d = top_depth} c.args.self.ready)
 
 pub invariant_of-result : goal.invariant_of-result
 invariant_of-result c =

@@ -2,7 +2,7 @@ use mathlib.Core.Path.{◌≡◌, ap, sym, ◌∙◌}
 use Prim.Native.Nat.{ℕ, ◌+◌, ◌-◌, ◌*◌, ◌/◌}
 use native.Mathlib.Omega.{arith}
 use Rattle.definitions.specs.Fields.{le}
-use Rattle.contract_nodes.specs.Ready.{params_from}
+use Rattle.contract_nodes.specs.Ready.{params_from, top_depth}
 use Rattle.contract_nodes.specs.declared.contract.Struct.{Struct}
 use Rattle.contract_nodes.proofs.Standing.{ready}
 use Rattle.contract_nodes.proofs.Children.{size_fits}
@@ -20,7 +20,7 @@ left_is : (x : Struct) {size : ℕ} → size ≡ le 4 x.contract.sheet.now x.at 
 left_is x e = omega (arith, (at_of x).ends, stop_is x.contract.sheet.now x.at e)
 
 pub read-size-requires : goal.read-size-requires
-read-size-requires c = size_fits (ready {d = 39} c.args.self.ready)
+read-size-requires c = size_fits (ready {d = top_depth} c.args.self.ready)
 
 pub overflow_sub-result : goal.overflow_sub-result
 overflow_sub-result c = omega (arith, left_is c.args.self c.read-size.ensures.0)

@@ -7,9 +7,9 @@ use Rattle.lower_names.proofs.held.Scopes.declare.Goals as goal
 pub push-requires : goal.push-requires
 push-requires c =
     let i = c.self.inside in
-    omega (arith, c.requires, count_is i.entries.items i.scope c.self.view_is)
+    omega (arith, c.requires, count_is i.names.items i.scope c.self.view_is)
 
 pub returns : goal.returns
 returns c =
     let i = c.self.inside in
-    more_is i.entries.items i.scope c.self.view_is _ c.push.ensures.items refl
+    more_is i.names.items i.scope c.self.view_is _ c.push.ensures.items refl

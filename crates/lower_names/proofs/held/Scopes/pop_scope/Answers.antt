@@ -6,4 +6,4 @@ use Rattle.lower_names.proofs.held.Scopes.pop_scope.Goals as goal
 pub returns : goal.returns
 returns c =
     let i = c.self.inside in
-    cut i.entries.items i.scope c.self.view_is c.args.mark c.truncate.ensures.items (omega (arith, c.requires.0, count_is i.entries.items i.scope c.self.view_is))
+    cut i.names.items i.scope c.self.view_is c.args.mark c.truncate.ensures.items (omega (arith, c.requires.0, count_is i.names.items i.scope c.self.view_is))

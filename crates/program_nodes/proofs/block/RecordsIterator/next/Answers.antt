@@ -6,7 +6,7 @@ use borrow.Author.Rules.{rules}
 use Rattle.definitions.proofs.Sheets.Steps.{low}
 use Rattle.definitions.specs.Fine.{ends}
 use Rattle.definitions.specs.Records.{may_end}
-use Rattle.program_nodes.specs.Positions.{stop_here}
+use Rattle.sheet.specs.Passed.{stop_of}
 use Rattle.sheet.proofs.Standing.{good, kept}
 use Rattle.program_nodes.proofs.Walk.{InstrStep, TermStep, record_fits, record_long, rest_here, instr_here_lem, term_here_lem}
 use Rattle.program_nodes.proofs.Takes.{first_instr, first_term, no_record}
@@ -14,7 +14,7 @@ use Rattle.program_nodes.proofs.block.RecordsIterator.next.Goals as goal
 use Rattle.program_nodes.proofs.block.RecordsIterator.next.Goals.{Then-kind-lt-FIRST_TERMINATOR, Else-kind-lt-FIRST_TERMINATOR}
 
 -- what stands there, by its kind
-instr_there : (c : Then-kind-lt-FIRST_TERMINATOR) → InstrStep c.args.self.now.sheet.now c.args.self.now.at c.args.self.now.end (stop_here c.args.self.now.sheet.now c.args.self.now.at)
+instr_there : (c : Then-kind-lt-FIRST_TERMINATOR) → InstrStep c.args.self.now.sheet.now c.args.self.now.at c.args.self.now.end (stop_of c.args.self.now.sheet.now c.args.self.now.at)
 instr_there c = instr_here_lem (kept c.args.self.now.here.0) c.if-self-at.false (omega (arith, c.read_u16-kind.ensures, c.if-kind-lt-FIRST_TERMINATOR.true))
 
 term_there : (c : Else-kind-lt-FIRST_TERMINATOR) → TermStep c.args.self.now.sheet.now c.args.self.now.at c.args.self.now.end

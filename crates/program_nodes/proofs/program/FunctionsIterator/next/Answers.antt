@@ -5,7 +5,7 @@ use native.Mathlib.Omega.{arith}
 use lib.ListN.{length}
 use borrow.Author.Rules.{rules}
 use Rattle.sheet.proofs.Standing.{good, kept}
-use Rattle.program_nodes.specs.Positions.{kind_here}
+use Rattle.sheet.specs.Passed.{record_kind}
 use Rattle.program_nodes.proofs.FunctionSteps.{head_there, no_functions, function_fits}
 use Rattle.program_nodes.proofs.Facts.{function_is}
 use Rattle.program_nodes.proofs.Takes.{first_function}
@@ -26,7 +26,7 @@ returns-then-read_u16-from-clause-steps c = (no_functions (kept c.args.self.now.
 pub function_at-function-requires : goal.function_at-function-requires
 function_at-function-requires c =
     let w = c.args.self.now in
-    let k : kind_here w.program.sheet.now w.at ≡ 51 = sym c.read_u16.ensures ∙ (c.if-read_u16-from.false ∙ c.from.ensures) in
+    let k : record_kind w.program.sheet.now w.at ≡ 51 = sym c.read_u16.ensures ∙ (c.if-read_u16-from.false ∙ c.from.ensures) in
     record { stands = (w.here, k); room = function_fits (kept w.here) (omega (arith, c.len.ensures, c.if-len-at.false)) k }
 
 pub invariant_of-self : goal.invariant_of-self

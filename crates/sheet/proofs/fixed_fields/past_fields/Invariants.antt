@@ -1,6 +1,0 @@
--- `sheet::fixed_fields::past_fields`: the fields that are left decide. Assumes nothing.
-use Rattle.sheet.proofs.Fields.{Passing}
-use Rattle.sheet.proofs.fixed_fields.past_fields.Given as goal
-
-abbrev pub invariant-loop-field : goal.invariant-loop-field
-invariant-loop-field l = Passing l.s l.at l.stop l.fields l.place l.field-index
