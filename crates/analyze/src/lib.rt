@@ -22,7 +22,7 @@ use sheet::ContractError;
 use thiserror::Error;
 
 // Why a sheet is refused.
-#[derive(Clone, Copy, Debug, PartialEq, Eq, Error)]
+#[derive(Clone, Copy, Debug, Error)]
 pub enum Refusal {
     #[error(transparent)]
     Contract(ContractError),

@@ -18,7 +18,7 @@ pub const FEW: usize = 1024;
 pub const ALL: usize = 65536;
 
 // A type of the body check (`Type` of `sema.rs`). Not `Option<IrType>`: what `get` gives would then be an Option of an Option.
-#[derive(Clone, Copy, Debug, PartialEq, Eq)]
+#[derive(Clone, Copy, PartialEq, Eq)]
 pub enum Ty {
     Unknown,
     Known(IrType),
@@ -33,7 +33,7 @@ pub fn differs(a: Ty, b: Ty) -> bool
 
 // The position of a binding, or none. Zeros are none, so that new heads are cleared memory; an Option of the position has four bytes, and
 // would double the heads, 131 kB of stack.
-#[derive(Clone, Copy, Debug, PartialEq, Eq)]
+#[derive(Clone, Copy)]
 pub struct Link(u16);
 
 impl Link {
@@ -55,7 +55,7 @@ impl Link {
 }
 
 // A name with its type, and the link to the binding before it of its chain.
-#[derive(Clone, Copy, Debug, PartialEq, Eq)]
+#[derive(Clone, Copy)]
 pub struct Binding {
     name: Name,
     link: Link,

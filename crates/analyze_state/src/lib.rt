@@ -9,7 +9,7 @@ use thiserror::Error;
 
 // The errors of the body check, in the order of their texts in `sema.rs`, each with the place of the record whose rule raised it.
 // Each has its own place, and not all one place beside a kind: with an enum for the kind and a struct around it, each `return Err(..)` names both.
-#[derive(Clone, Copy, Debug, PartialEq, Eq, Error)]
+#[derive(Clone, Copy, Debug, Error)]
 pub enum SemaError {
     #[error("Type mismatch in assign at byte {0}")]
     AssignMismatch(usize),

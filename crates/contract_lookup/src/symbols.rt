@@ -18,14 +18,14 @@ use ir::{FunctionId, IrType, Name};
 use reader::{read, read_u16};
 
 // A record of the contract: its position among those of its kind, and its place.
-#[derive(Clone, Copy, Debug, PartialEq, Eq)]
+#[derive(Clone, Copy)]
 struct Found {
     position: usize,
     at: usize,
 }
 
 // A function's id and the type of a call of it.
-#[derive(Clone, Copy, Debug, PartialEq, Eq)]
+#[derive(Clone, Copy)]
 pub struct NamedFunction {
     pub function: FunctionId,
     pub ret: IrType,

@@ -6,12 +6,12 @@ ghost use Rattle.format.specs.Kinds as numbers;
 use thiserror::Error;
 
 // A number that is no kind.
-#[derive(Clone, Copy, Debug, PartialEq, Eq, Error)]
+#[derive(Clone, Copy, Debug, Error)]
 #[error("{0} is the number of no kind")]
 pub struct UnknownKind(pub u16);
 
 // What a contract consists of, in this order.
-#[derive(Clone, Copy, Debug, PartialEq, Eq)]
+#[derive(Clone, Copy)]
 pub enum Declaration {
     Storage = 2,
     Struct = 3,
@@ -34,7 +34,7 @@ impl TryFrom<u16> for Declaration {
 }
 
 // The Rust's `Stmt`.
-#[derive(Clone, Copy, Debug, PartialEq, Eq)]
+#[derive(Clone, Copy)]
 pub enum Stmt {
     Let = 10,
     Constrain = 11,
@@ -73,7 +73,7 @@ impl TryFrom<u16> for Stmt {
 }
 
 // The Rust's `Expr`.
-#[derive(Clone, Copy, Debug, PartialEq, Eq)]
+#[derive(Clone, Copy)]
 pub enum Expr {
     Int = 30,
     Ident = 31,
@@ -106,7 +106,7 @@ impl TryFrom<u16> for Expr {
 }
 
 // The Rust's `Instruction`.
-#[derive(Clone, Copy, Debug, PartialEq, Eq)]
+#[derive(Clone, Copy, Debug)]
 pub enum Instruction {
     Const = 60,
     Add = 61,
@@ -167,7 +167,7 @@ impl TryFrom<u16> for Instruction {
 }
 
 // The Rust's `Terminator`.
-#[derive(Clone, Copy, Debug, PartialEq, Eq)]
+#[derive(Clone, Copy)]
 pub enum Terminator {
     Jump = 90,
     Branch = 91,
@@ -192,7 +192,7 @@ impl TryFrom<u16> for Terminator {
 }
 
 // What stands in a block.
-#[derive(Clone, Copy, Debug, PartialEq, Eq)]
+#[derive(Clone, Copy)]
 pub enum InBlock {
     Instruction(Instruction),
     Terminator(Terminator),
@@ -212,7 +212,7 @@ impl TryFrom<u16> for InBlock {
 }
 
 // The kinds of both sheets' records: first the contract sheet's.
-#[derive(Clone, Copy, Debug, PartialEq, Eq)]
+#[derive(Clone, Copy)]
 pub enum Kind {
     Contract,
     Declaration(Declaration),

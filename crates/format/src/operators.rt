@@ -4,7 +4,7 @@ ghost use Rattle.format.specs.Operators as numbers;
 use crate::kinds::UnknownKind;
 
 // In the order of the Rust's `BinOp`. Arithmetic comes first, then what compares.
-#[derive(Clone, Copy, Debug, PartialEq, Eq)]
+#[derive(Clone, Copy)]
 pub enum BinOp {
     Add,
     Sub,

@@ -106,7 +106,7 @@ pub const EVENT_ARGS: usize = OWN + ID;
 pub const CONTEXT: usize = OWN;
 
 // What a ContextRead can read: the Rust's `ContextKind`.
-#[derive(Clone, Copy, Debug, PartialEq, Eq)]
+#[derive(Clone, Copy)]
 pub enum ContextKind {
     MsgSender,
     MsgNonce,

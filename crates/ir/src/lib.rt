@@ -155,7 +155,7 @@ impl From<usize> for IrType {
 }
 
 // The type of an instruction's result: none, the instruction's own, its own unless that is Void, Bool, U64.
-#[derive(Clone, Copy, Debug, PartialEq, Eq)]
+#[derive(Clone, Copy)]
 pub enum ResultRule {
     None,
     Own,
@@ -164,7 +164,7 @@ pub enum ResultRule {
     U64,
 }
 
-#[derive(Clone, Copy, Debug, PartialEq, Eq)]
+#[derive(Clone, Copy)]
 pub enum Effect {
     Pure,
     MemoryRead,
@@ -177,7 +177,7 @@ pub enum Effect {
 }
 
 // What an instruction kind gives and does. Verifying reads the results; the effects have no reader here.
-#[derive(Clone, Copy, Debug, PartialEq, Eq)]
+#[derive(Clone, Copy)]
 pub struct KindRow {
     pub result: ResultRule,
     pub effect: Effect,

@@ -6,7 +6,7 @@ use lower_state::LoweringError;
 use sheet::ContractError;
 use thiserror::Error;
 
-#[derive(Clone, Copy, Debug, PartialEq, Eq, Error)]
+#[derive(Clone, Copy, Debug, Error)]
 pub enum Refusal {
     #[error(transparent)]
     Contract(ContractError),

@@ -19,7 +19,7 @@ use lower_names::Scopes;
 use lower_state::{FnCtx, LoweringError, ThreeBlocks};
 
 // The two locals of a For: its variable, and the end that it is compared with.
-#[derive(Clone, Copy, Debug)]
+#[derive(Clone, Copy)]
 pub struct Bounds {
     pub var: LocalId,
     pub end: LocalId,

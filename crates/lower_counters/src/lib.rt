@@ -7,7 +7,7 @@ ghost use Rattle.lower_counters.specs.Count.{value_taken, block_taken, local_tak
 use ir::{BlockId, LocalId, ValueId};
 
 // The numbers of the next value, block and local.
-#[derive(Clone, Copy, Debug, PartialEq, Eq)]
+#[derive(Clone, Copy)]
 pub struct Counters {
     pub value: u16,
     pub block: u16,

@@ -5,7 +5,7 @@ use lower_state::MOST_LOCALS;
 use std::marker::Model;
 
 // A name with the number of its scope, its local and its type.
-#[derive(Clone, Copy, Debug, Default)]
+#[derive(Clone, Copy, Default)]
 struct HeldName {
     name: Name,
     scope: u16,

@@ -11,14 +11,14 @@ use lower_counters::Counters;
 use std::marker::Model;
 
 // Where the records of a block start and stop in the log.
-#[derive(Clone, Copy, Debug)]
+#[derive(Clone, Copy)]
 struct Span {
     start: u32,
     stop: u32,
 }
 
 // The three blocks of an If (then, else, merge), a While or a For (header, body, exit).
-#[derive(Clone, Copy, Debug)]
+#[derive(Clone, Copy)]
 pub struct ThreeBlocks {
     pub first: BlockId,
     pub second: BlockId,

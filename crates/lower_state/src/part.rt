@@ -4,7 +4,7 @@ ghost use Rattle.std.specs.Prelude.{◌≤◌};
 use format::{ID, TYPE, WORD};
 
 // A number in so many bytes. A record has three, and no array of them: with what fills it up at each call, the calls read no plainer.
-#[derive(Clone, Copy, Debug)]
+#[derive(Clone, Copy)]
 pub struct Part {
     pub width: usize,
     pub number: usize,

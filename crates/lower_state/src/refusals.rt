@@ -4,7 +4,7 @@ use thiserror::Error;
 
 // The errors of lowering (`LoweringError`); the Rust's `UnsupportedNode` is told apart by its text. The texts have the numbers of names and ids, as
 // the Rust's have: its ids have no Display.
-#[derive(Clone, Copy, Debug, PartialEq, Eq, Error)]
+#[derive(Clone, Copy, Debug, Error)]
 pub enum LoweringError {
     #[error("unresolved type: name {}", .0.0)]
     UnresolvedType(Name),

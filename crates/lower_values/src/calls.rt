@@ -17,7 +17,7 @@ use lower_emit::{Args, emit_call, emit_call_void, emit_context_read, emit_poseid
 use lower_state::{FnCtx, LoweringError};
 
 // What a name stands for in a call: a read of the context, the hash of two values, a function of the contract.
-#[derive(Clone, Copy, Debug)]
+#[derive(Clone, Copy)]
 pub enum Called {
     Context(ContextKind),
     Poseidon,

@@ -13,7 +13,7 @@ use format::operators::BinOp;
 use thiserror::Error;
 
 // The divisor of a quotient is 0.
-#[derive(Clone, Copy, Debug, PartialEq, Eq, Error)]
+#[derive(Clone, Copy, Debug, Error)]
 #[error("the divisor is 0")]
 pub struct ZeroDivisor;
 

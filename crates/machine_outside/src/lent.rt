@@ -6,7 +6,7 @@ ghost use Rattle.machine_outside.specs.Outside.{TakesWord, context_of};
 use format::program::ContextKind;
 
 // The outside results, and how many of them are used. No slice that gets shorter: the promises say that what is left is of the same words.
-#[derive(Clone, Copy, Debug)]
+#[derive(Clone, Copy)]
 pub struct Outside<'a> {
     pub words: &'a [u64],
     pub used: usize,
@@ -27,7 +27,7 @@ impl Iterator for Outside<'_> {
 }
 
 // The three context words.
-#[derive(Clone, Copy, Debug, PartialEq, Eq)]
+#[derive(Clone, Copy)]
 pub struct Context {
     pub sender: u64,
     pub nonce: u64,

@@ -11,7 +11,7 @@ use ir::ValueId;
 use program_nodes::{Block, Function, Record};
 
 // How many ids a search has passed, and a number above all of them.
-#[derive(Clone, Copy, Debug, PartialEq, Eq)]
+#[derive(Clone, Copy)]
 struct Tally {
     count: usize,
     above: usize,

@@ -7,7 +7,7 @@ use std::fmt;
 use thiserror::Error;
 
 // An outcome's cause, or too little memory.
-#[derive(Clone, Copy, Debug, PartialEq, Eq, Error)]
+#[derive(Clone, Copy, Debug, Error)]
 pub enum Halt {
     #[error(fmt = returned)]
     Returned(Option<u64>),

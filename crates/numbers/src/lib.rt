@@ -14,7 +14,7 @@ pub const MOST_NUMBERS: usize = 6;
 
 // An answer's numbers: a refusal's own and its details, in order. Acceptance has none, or 0 and a length. A count and an array, and no `ArrayVec`:
 // C reads the zeros behind the numbers too, and behind an `ArrayVec` nothing is known to stand.
-#[derive(Clone, Copy, Debug, PartialEq, Eq)]
+#[derive(Clone, Copy)]
 pub struct Numbers {
     count: usize,
     list: [usize; MOST_NUMBERS],

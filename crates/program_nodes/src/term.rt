@@ -16,7 +16,7 @@ pub struct Term<'a> {
 }
 
 // What a terminator is (`Terminator` of `ir/mod.rs`).
-#[derive(Clone, Copy, Debug, PartialEq, Eq)]
+#[derive(Clone, Copy)]
 pub enum Terminator {
     Jump(BlockId),
     Branch(ValueId, BlockId, BlockId),

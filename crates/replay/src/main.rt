@@ -14,7 +14,7 @@ use lower_line::LOWERED_LINE;
 use thiserror::Error;
 
 // What is asked of a sheet.
-#[derive(Clone, Copy, Debug, PartialEq, Eq)]
+#[derive(Clone, Copy)]
 enum Asked {
     Lower,
     Verify,
@@ -22,7 +22,7 @@ enum Asked {
 }
 
 // A letter that asks nothing.
-#[derive(Clone, Copy, Debug, PartialEq, Eq, Error)]
+#[derive(Clone, Copy, Debug, Error)]
 #[error("{0} asks nothing")]
 struct UnknownLetter(u8);
 
@@ -43,7 +43,7 @@ impl TryFrom<u8> for Asked {
 const LONGEST: usize = MOST_BYTES + 1;
 
 // The letter before the next sheet, and the sheet's length.
-#[derive(Clone, Copy, Debug, PartialEq, Eq)]
+#[derive(Clone, Copy)]
 struct Head {
     letter: u8,
     length: usize,

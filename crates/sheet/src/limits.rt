@@ -18,7 +18,7 @@ use format::{COUNT, LENGTH_BYTES};
 use reader::read;
 
 // How many storage fields, structs and functions stand before a record.
-#[derive(Clone, Copy, Debug, PartialEq, Eq)]
+#[derive(Clone, Copy)]
 struct Counts {
     storage: usize,
     structs: usize,

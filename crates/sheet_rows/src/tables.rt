@@ -15,7 +15,7 @@ use crate::program_rows::{
 use format::kinds::{InBlock, Kind};
 
 // What a record is, to the record around it.
-#[derive(Clone, Copy, Debug, PartialEq, Eq)]
+#[derive(Clone, Copy, PartialEq, Eq)]
 pub enum Class {
     Contract,
     Storage,
@@ -33,7 +33,7 @@ pub enum Class {
     Terminator,
 }
 
-#[derive(Clone, Copy, Debug, PartialEq, Eq)]
+#[derive(Clone, Copy, PartialEq, Eq)]
 pub enum Often {
     Once,
     AtMostOnce,
@@ -41,13 +41,13 @@ pub enum Often {
 }
 
 // What may come next among a record's children.
-#[derive(Clone, Copy, Debug, PartialEq, Eq)]
+#[derive(Clone, Copy)]
 pub struct Child {
     pub class: Class,
     pub often: Often,
 }
 
-#[derive(Clone, Copy, Debug, PartialEq, Eq)]
+#[derive(Clone, Copy)]
 pub enum Entry {
     Id,
     Type,
@@ -56,7 +56,7 @@ pub enum Entry {
 }
 
 // A field. The entries of a list are counted before the first, or go on to the record's end.
-#[derive(Clone, Copy, Debug, PartialEq, Eq)]
+#[derive(Clone, Copy)]
 pub enum Field {
     Origin, // what stands before the own fields of an instruction or terminator
     Id, // of anything, or a name
@@ -72,7 +72,7 @@ pub enum Field {
 }
 
 // A record's class, its fixed fields, and its children in order.
-#[derive(Clone, Copy, Debug)]
+#[derive(Clone, Copy)]
 pub struct Row {
     pub class: Class,
     pub fields: &'static [Field],

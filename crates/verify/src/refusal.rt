@@ -6,7 +6,7 @@ use sheet::Malformed;
 use thiserror::Error;
 use verify_state::VerifyError;
 
-#[derive(Clone, Copy, Debug, PartialEq, Eq, Error)]
+#[derive(Clone, Copy, Debug, Error)]
 pub enum Refusal {
     #[error("the sheet is too long")]
     TooLong,

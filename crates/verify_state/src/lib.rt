@@ -7,7 +7,7 @@ use thiserror::Error;
 
 // The Rust's `VerifyError`: each variant has the function's name, as the Rust's have, and here it stands first. `ResultOnNone` takes the place of a
 // panic and has the instruction's kind. The texts have the numbers of names and ids, as the Rust's have: its ids have no Display.
-#[derive(Clone, Copy, Debug, PartialEq, Eq, Error)]
+#[derive(Clone, Copy, Debug, Error)]
 pub enum VerifyError {
     #[error("fn {}: undefined value %{}", .0.0, .1.0)]
     UndefinedValue(Name, ValueId),
