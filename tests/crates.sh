@@ -1,7 +1,6 @@
 #!/usr/bin/env bash
-# The table of the crates in docs/BENCHMARKS.md: lines that are not empty, by folder; the seconds from one crate that the last test run proved to the next (target/ci.times, by
-# tests/progress.sh), which are those of the crate where the run had one processor (`taskset -c 0 ./test`), and none for a crate that an earlier run on the machine proved; its must-fail
-# edits. tests/crates.sh, after ./test.
+# The table of the crates in docs/BENCHMARKS.md: lines that are not empty, by folder; the seconds of a check from nothing, where target/seconds has them (`tools/seconds > target/seconds`);
+# its must-fail edits.
 set -eu
 cd "$(dirname "$0")/.."
 lines() { find "$@" -type f 2>/dev/null -exec cat {} + | grep -c . || true; }
@@ -11,7 +10,7 @@ row() { printf '| %s | %d | %d | %d | %s | %s | %d |\n' "$1" "$2" "$3" "$4" "$([
 while IFS=: read -r crate _; do
   crate=${crate% staticlib}
   c=$(lines "crates/$crate/src") r=$(lines "crates/$crate/specs") p=$(lines "crates/$crate/proofs")
-  s=$(awk -v crate="$crate" '$1 == crate { print $2 - before } { before = $2 }' target/ci.times 2>/dev/null || true)
+  s=$(awk -v crate="$crate" '$1 == crate { printf "%.0f", $2 }' target/seconds 2>/dev/null || true)
   e=$(find "crates/$crate/must-fail" -name '*.edit' 2>/dev/null | wc -l)
   row "$crate" "$c" "$r" "$p" "${s:--}" "$e"
   code=$((code + c)) rules=$((rules + r)) proof=$((proof + p)) time=$((time + ${s:-0})) edits=$((edits + e))

@@ -2,8 +2,8 @@
 #![tactic(auto)]
 
 ghost use Rattle.std.specs.Prelude.{◌≡◌, IfSome};
-ghost use Rattle.definitions.specs.Ast.{Stmt};
-ghost use Rattle.contract_nodes.specs.Nodes.{expr_in, exprs_in, opt_expr_in};
+ghost use Rattle.definitions.specs.Ast.{Stmt as Tree};
+ghost use Rattle.contract_nodes.specs.Nodes.{expr_in, exprs_in, opt_expr_in, simple_is, SimpleParts};
 ghost use Rattle.analyze_walk.specs.Stops.{check_stmt};
 ghost use Rattle.analyze_state.specs.State.{analyzed_contract, ret_of, OfSheet, env_after};
 ghost use Rattle.analyze_simple.specs.Checked.{value_checked, pair_checked, args_checked};
@@ -11,12 +11,12 @@ ghost use Rattle.analyze_simple.specs.Checked.{value_checked, pair_checked, args
 use analyze_env::{Env, Ty, differs};
 use analyze_exprs::analyze_expr;
 use analyze_state::{Analyzer, SemaError};
-use contract_nodes::{Expr, Exprs};
+use contract_nodes::{Expr, Exprs, SimpleNode, Stmt};
 use ir::{IrType, Name};
 
 // An expression whose type is not asked: Constrain, StorageWrite and an expression as a statement.
 // `OfSheet`: as in analyze_exprs.
-pub fn analyze_value(a: &Analyzer, env: &Env, value: Expr) -> Result<(), SemaError>
+fn analyze_value(a: &Analyzer, env: &Env, value: Expr) -> Result<(), SemaError>
     requires { OfSheet a.now value.contract }
     ensures { env_after env.now result ≡ value_checked (analyzed_contract a.now) env.now.names (expr_in value.entry) }
 {
@@ -35,7 +35,7 @@ pub fn analyze_pair(a: &Analyzer, env: &Env, first: Expr, second: Expr) -> Resul
 }
 
 // Emit: the arguments in order.
-pub fn analyze_args(a: &Analyzer, env: &Env, args: Exprs) -> Result<(), SemaError>
+fn analyze_args(a: &Analyzer, env: &Env, args: Exprs) -> Result<(), SemaError>
     requires { OfSheet a.now args.contract }
     ensures { env_after env.now result ≡ args_checked (analyzed_contract a.now) env.now.names (exprs_in args.entry) }
 {
@@ -47,7 +47,7 @@ pub fn analyze_args(a: &Analyzer, env: &Env, args: Exprs) -> Result<(), SemaErro
 
 // Assign, at a place: the name, then the expression.
 #[tactic(auto, unfolding(analyze_walk::specs::Stops::check_stmt))]
-pub fn analyze_assign(
+fn analyze_assign(
     a: &Analyzer,
     env: &Env,
     at: usize,
@@ -55,7 +55,7 @@ pub fn analyze_assign(
     value: Expr,
 ) -> Result<(), SemaError>
     requires { OfSheet a.now value.contract }
-    ensures { env_after env.now result ≡ check_stmt (analyzed_contract a.now) (ret_of a.now) (Stmt.Assign at name.0 (expr_in value.entry)) env.now.names }
+    ensures { env_after env.now result ≡ check_stmt (analyzed_contract a.now) (ret_of a.now) (Tree.Assign at name.0 (expr_in value.entry)) env.now.names }
 {
     let expected = env.get(name).ok_or(SemaError::UndefinedVariable(at))?;
     let ty = analyze_expr(a, env, value)?;
@@ -67,14 +67,9 @@ pub fn analyze_assign(
 
 // Return, at a place, perhaps of a value; Void without one.
 #[tactic(auto, unfolding(analyze_walk::specs::Stops::check_stmt, analyze_walk::specs::Stops::check_return))]
-pub fn analyze_return(
-    a: &Analyzer,
-    env: &Env,
-    at: usize,
-    value: Option<Expr>,
-) -> Result<(), SemaError>
+fn analyze_return(a: &Analyzer, env: &Env, at: usize, value: Option<Expr>) -> Result<(), SemaError>
     requires { IfSome value (λ e. OfSheet a.now e.contract) }
-    ensures { env_after env.now result ≡ check_stmt (analyzed_contract a.now) (ret_of a.now) (Stmt.Return at (opt_expr_in value.entry)) env.now.names }
+    ensures { env_after env.now result ≡ check_stmt (analyzed_contract a.now) (ret_of a.now) (Tree.Return at (opt_expr_in value.entry)) env.now.names }
 {
     // No plainer: `map_or` would have an `Ok` around Void, and a closure around the call.
     let ty = match value {
@@ -85,4 +80,22 @@ pub fn analyze_return(
         return Err(SemaError::ReturnMismatch(at));
     }
     Ok(())
+}
+
+// A statement that has no statements in it and makes no name known, by its node.
+#[tactic(auto, unfolding(analyze_walk::specs::Stops::check_stmt))]
+pub fn analyze_simple(a: &Analyzer, env: &Env, t: Stmt, node: SimpleNode) -> Result<(), SemaError>
+    requires of_sheet { OfSheet a.now t.contract }
+    requires parts { SimpleParts t node }
+    ensures { env_after env.now result ≡ check_stmt (analyzed_contract a.now) (ret_of a.now) (simple_is t.entry.at node.entry) env.now.names }
+{
+    match node {
+        SimpleNode::Constrain(e) => analyze_value(a, env, e),
+        SimpleNode::Assign(name, value) => analyze_assign(a, env, t.at, name, value),
+        SimpleNode::StorageWrite(_, value) => analyze_value(a, env, value),
+        SimpleNode::MappingWrite(_, key, value) => analyze_pair(a, env, key, value),
+        SimpleNode::Return(value) => analyze_return(a, env, t.at, value),
+        SimpleNode::Emit(_, args) => analyze_args(a, env, args),
+        SimpleNode::Expr(e) => analyze_value(a, env, e),
+    }
 }

@@ -10,7 +10,7 @@ ghost use Rattle.analyze_stmts.specs.Room.{Room, GrownTo};
 
 use analyze_env::{Env, Ty};
 use analyze_exprs::analyze_expr;
-use analyze_simple::{analyze_args, analyze_assign, analyze_pair, analyze_return, analyze_value};
+use analyze_simple::{analyze_pair, analyze_simple};
 use analyze_state::{Analyzer, SemaError};
 use contract_nodes::{Stmt, StmtNode, Stmts};
 use ir::IrType;
@@ -31,10 +31,6 @@ pub fn analyze_stmt(a: &Analyzer, env: &mut Env, t: Stmt) -> Result<(), SemaErro
             env.insert(name, ty);
             Ok(())
         }
-        StmtNode::Constrain(e) => analyze_value(a, env, e),
-        StmtNode::Assign(name, value) => analyze_assign(a, env, t.at, name, value),
-        StmtNode::StorageWrite(_, value) => analyze_value(a, env, value),
-        StmtNode::MappingWrite(_, key, value) => analyze_pair(a, env, key, value),
         StmtNode::If(test, then_arm, else_arm) => {
             analyze_expr(a, env, test)?;
             analyze_stmts(a, env, then_arm)?;
@@ -52,9 +48,7 @@ pub fn analyze_stmt(a: &Analyzer, env: &mut Env, t: Stmt) -> Result<(), SemaErro
             env.truncate(mark);
             Ok(())
         }
-        StmtNode::Return(value) => analyze_return(a, env, t.at, value),
-        StmtNode::Emit(_, args) => analyze_args(a, env, args),
-        StmtNode::Expr(e) => analyze_value(a, env, e),
+        StmtNode::Simple(node) => analyze_simple(a, env, t, node),
     }
 }
 

@@ -24,6 +24,8 @@ use Rattle.contract_nodes.specs.declared.stmt.Stmt.{Stmt}
 use Rattle.contract_nodes.specs.declared.stmt.Stmts.{Stmts}
 use Rattle.contract_nodes.specs.declared.stmt.StmtNode.{StmtNode}
 use Rattle.contract_nodes.specs.declared.stmt.StmtNode.TheVariants as stmt
+use Rattle.contract_nodes.specs.declared.stmt.SimpleNode.{SimpleNode}
+use Rattle.contract_nodes.specs.declared.stmt.SimpleNode.TheVariants as simple
 
 -- a sheet that passed its check says no more
 abbrev pub checked : Contract → Done
@@ -147,18 +149,21 @@ pub record IfIs (t : Stmt) (c : Expr) (a b : Stmts) : Type 0 where
   pub is : stmt_in t ≡ ast.Stmt.If t.at (expr_in c) then_place (stmts_in a) arms
   pub other : ((arms ≡ ast.no_else) × (stmts_in b ≡ ast.snil)) ⊎ ((p : ℕ) × (arms ≡ ast.else_do p (stmts_in b)))
 
+abbrev pub simple_is : ℕ → SimpleNode → ast.Stmt
+simple_is p (simple.Constrain e) = ast.Stmt.Constrain p (expr_in e)
+simple_is p (simple.Assign n e) = ast.Stmt.Assign p n.0 (expr_in e)
+simple_is p (simple.StorageWrite n e) = ast.Stmt.StorageWrite p n.0 (expr_in e)
+simple_is p (simple.MappingWrite n k e) = ast.Stmt.MappingWrite p n.0 (expr_in k) (expr_in e)
+simple_is p (simple.Return e) = ast.Stmt.Return p (opt_expr_in e)
+simple_is p (simple.Emit n es) = ast.Stmt.Emit p n.0 (exprs_in es)
+simple_is p (simple.Expr e) = ast.Stmt.ExprStmt p (expr_in e)
+
 abbrev pub StmtIs : Stmt → StmtNode → Type 0
 StmtIs t (stmt.Let n e) = stmt_in t ≡ ast.Stmt.Let t.at n.0 (expr_in e)
-StmtIs t (stmt.Constrain e) = stmt_in t ≡ ast.Stmt.Constrain t.at (expr_in e)
-StmtIs t (stmt.Assign n e) = stmt_in t ≡ ast.Stmt.Assign t.at n.0 (expr_in e)
-StmtIs t (stmt.StorageWrite n e) = stmt_in t ≡ ast.Stmt.StorageWrite t.at n.0 (expr_in e)
-StmtIs t (stmt.MappingWrite n k e) = stmt_in t ≡ ast.Stmt.MappingWrite t.at n.0 (expr_in k) (expr_in e)
 StmtIs t (stmt.If c a b) = IfIs t c a b
 StmtIs t (stmt.While c b) = (p : ℕ) × (stmt_in t ≡ ast.Stmt.While t.at (expr_in c) p (stmts_in b))
 StmtIs t (stmt.For n a e b) = (p : ℕ) × (stmt_in t ≡ ast.Stmt.For t.at n.0 (expr_in a) (expr_in e) p (stmts_in b))
-StmtIs t (stmt.Return e) = stmt_in t ≡ ast.Stmt.Return t.at (opt_expr_in e)
-StmtIs t (stmt.Emit n es) = stmt_in t ≡ ast.Stmt.Emit t.at n.0 (exprs_in es)
-StmtIs t (stmt.Expr e) = stmt_in t ≡ ast.Stmt.ExprStmt t.at (expr_in e)
+StmtIs t (stmt.Simple n) = stmt_in t ≡ simple_is t.at n
 
 abbrev pub stop_in : Stmt → ℕ
 stop_in t = stop_of t.contract.sheet.now t.at
@@ -174,19 +179,22 @@ pub record SpanIn (t : Stmt) (b : Stmts) : Type 0 where
   pub order : b.at ≤ b.end
   pub high : b.end ≤ stop_in t
 
+abbrev pub SimpleParts : Stmt → SimpleNode → Type 0
+SimpleParts t (simple.Constrain e) = InStmt t e
+SimpleParts t (simple.Assign n e) = InStmt t e
+SimpleParts t (simple.StorageWrite n e) = InStmt t e
+SimpleParts t (simple.MappingWrite n k e) = InStmt t k × InStmt t e
+SimpleParts t (simple.Return None) = Unit {0}
+SimpleParts t (simple.Return (Some e)) = InStmt t e
+SimpleParts t (simple.Emit n es) = (es.contract.sheet.now ≡ t.contract.sheet.now) × (es.depth + 1 ≡ t.depth) × (count_of (exprs_in es) ≤ 16)
+SimpleParts t (simple.Expr e) = InStmt t e
+
 abbrev pub StmtParts : Stmt → StmtNode → Type 0
 StmtParts t (stmt.Let n e) = InStmt t e × (t.at + 16 ≤ stop_in t)
-StmtParts t (stmt.Constrain e) = InStmt t e
-StmtParts t (stmt.Assign n e) = InStmt t e
-StmtParts t (stmt.StorageWrite n e) = InStmt t e
-StmtParts t (stmt.MappingWrite n k e) = InStmt t k × InStmt t e
 StmtParts t (stmt.If c a b) = InStmt t c × SpanIn t a × SpanIn t b × (a.end ≤ b.at)
 StmtParts t (stmt.While c b) = InStmt t c × SpanIn t b
 StmtParts t (stmt.For n a e b) = InStmt t a × InStmt t e × SpanIn t b × (t.at + 16 ≤ b.at)
-StmtParts t (stmt.Return None) = Unit {0}
-StmtParts t (stmt.Return (Some e)) = InStmt t e
-StmtParts t (stmt.Emit n es) = (es.contract.sheet.now ≡ t.contract.sheet.now) × (es.depth + 1 ≡ t.depth) × (count_of (exprs_in es) ≤ 16)
-StmtParts t (stmt.Expr e) = InStmt t e
+StmtParts t (stmt.Simple n) = SimpleParts t n
 
 pub record FirstStmt (old new : Stmts) (t : Stmt) : Type 0 where
   pub is : stmts_in old ≡ ast.scons (stmt_in t) (stmts_in new)

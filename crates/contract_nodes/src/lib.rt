@@ -11,4 +11,4 @@ pub mod stmt; // statements
 
 pub use contract::{Contract, Function, Param, ParamIter, Struct};
 pub use expr::{Expr, ExprNode, Exprs, FieldInit, FieldInits};
-pub use stmt::{Stmt, StmtNode, Stmts};
+pub use stmt::{SimpleNode, Stmt, StmtNode, Stmts};

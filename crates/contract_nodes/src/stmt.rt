@@ -32,13 +32,19 @@ pub struct Stmts<'a> {
 #[derive(Clone, Copy)]
 pub enum StmtNode<'a> {
     Let(Name, Expr<'a>),
+    If(Expr<'a>, Stmts<'a>, Stmts<'a>),
+    While(Expr<'a>, Stmts<'a>),
+    For(Name, Expr<'a>, Expr<'a>, Stmts<'a>),
+    Simple(SimpleNode<'a>),
+}
+
+// A statement that has no statements in it and makes no name known.
+#[derive(Clone, Copy)]
+pub enum SimpleNode<'a> {
     Constrain(Expr<'a>),
     Assign(Name, Expr<'a>),
     StorageWrite(Name, Expr<'a>),
     MappingWrite(Name, Expr<'a>, Expr<'a>),
-    If(Expr<'a>, Stmts<'a>, Stmts<'a>),
-    While(Expr<'a>, Stmts<'a>),
-    For(Name, Expr<'a>, Expr<'a>, Stmts<'a>),
     Return(Option<Expr<'a>>),
     Emit(Name, Exprs<'a>),
     Expr(Expr<'a>),
@@ -90,36 +96,30 @@ impl<'a> Stmt<'a> {
         let depth = self.depth - 1;
         match kind {
             kinds::Stmt::Let => StmtNode::Let(self.name(), Expr::new(contract, at, depth)),
-            kinds::Stmt::Constrain => StmtNode::Constrain(Expr::new(contract, first, depth)),
-            kinds::Stmt::Assign => StmtNode::Assign(self.name(), Expr::new(contract, at, depth)),
-            kinds::Stmt::StorageWrite => StmtNode::StorageWrite(
-                self.name(),
-                Expr::new(contract, at, depth),
-            ),
+            kinds::Stmt::Constrain => {
+                StmtNode::Simple(SimpleNode::Constrain(Expr::new(contract, first, depth)))
+            }
+            kinds::Stmt::Assign => {
+                let value = Expr::new(contract, at, depth);
+                StmtNode::Simple(SimpleNode::Assign(self.name(), value))
+            }
+            kinds::Stmt::StorageWrite => {
+                let value = Expr::new(contract, at, depth);
+                StmtNode::Simple(SimpleNode::StorageWrite(self.name(), value))
+            }
             kinds::Stmt::MappingWrite => {
                 let key = Expr::new(contract, at, depth);
                 let value = Expr::new(contract, at + read(s, at, LENGTH_BYTES), depth);
-                StmtNode::MappingWrite(self.name(), key, value)
+                StmtNode::Simple(SimpleNode::MappingWrite(self.name(), key, value))
             }
             kinds::Stmt::If => self.if_node(),
             kinds::Stmt::While => self.while_node(),
             kinds::Stmt::For => self.for_node(),
-            kinds::Stmt::Return => {
-                if self.end() <= first {
-                    return StmtNode::Return(None);
-                }
-                StmtNode::Return(Some(Expr::new(contract, first, depth)))
+            kinds::Stmt::Return => self.return_node(),
+            kinds::Stmt::Emit => self.emit_node(),
+            kinds::Stmt::Expr => {
+                StmtNode::Simple(SimpleNode::Expr(Expr::new(contract, first, depth)))
             }
-            kinds::Stmt::Emit => StmtNode::Emit(
-                self.name(),
-                Exprs {
-                    contract,
-                    at,
-                    end: self.end(),
-                    depth,
-                },
-            ),
-            kinds::Stmt::Expr => StmtNode::Expr(Expr::new(contract, first, depth)),
         }
     }
 
@@ -171,6 +171,37 @@ impl<'a> Stmt<'a> {
         let last = Expr::new(contract, to, self.depth - 1);
         let body = Stmts::new(contract, block + HEAD, self.end(), self.depth - 2);
         StmtNode::For(self.name(), first, last, body)
+    }
+
+    // A Return: its value, if it has one.
+    fn return_node(self) -> StmtNode<'a>
+        requires here { StmtByKind self.contract.sheet.now self.at self.depth kind.Return }
+        requires deep { 1 ≤ self.depth }
+        ensures is { StmtIs self.entry result }
+        ensures parts { StmtParts self.entry result }
+    {
+        let at = self.at + HEAD;
+        if self.end() <= at {
+            return StmtNode::Simple(SimpleNode::Return(None));
+        }
+        let value = Expr::new(self.contract, at, self.depth - 1);
+        StmtNode::Simple(SimpleNode::Return(Some(value)))
+    }
+
+    // An Emit: its name and its arguments.
+    fn emit_node(self) -> StmtNode<'a>
+        requires here { StmtByKind self.contract.sheet.now self.at self.depth kind.Emit }
+        requires deep { 1 ≤ self.depth }
+        ensures is { StmtIs self.entry result }
+        ensures parts { StmtParts self.entry result }
+    {
+        let args = Exprs {
+            contract: self.contract,
+            at: self.at + contract::AFTER_NAME,
+            end: self.end(),
+            depth: self.depth - 1,
+        };
+        StmtNode::Simple(SimpleNode::Emit(self.name(), args))
     }
 }
 

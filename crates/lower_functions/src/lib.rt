@@ -6,7 +6,7 @@ ghost use Rattle.contract_nodes.specs.Nodes.{contract_in, function_in};
 ghost use Rattle.lower_walk.specs.Grown.{Grown};
 ghost use Rattle.lower_walk.specs.Layout.{new_ctx, walk_params, walk_function};
 ghost use Rattle.lower_state.specs.Answers.{done_after};
-ghost use Rattle.lower_simple.specs.Stated.{stated};
+ghost use Rattle.lower_names.specs.Stated.{stated};
 
 use contract_lookup::types::parse_ir_type;
 use contract_nodes::Function;

@@ -1,2 +1,3 @@
 pub mod HeldNames
 pub mod Scopes
+pub mod Stated

@@ -1,1 +1,1 @@
-pub mod Stated
+pub mod Returned

@@ -2,14 +2,15 @@
 #![tactic(auto)]
 
 ghost use Rattle.std.specs.Prelude.{◌≡◌, ℕ, ◌≤◌, IfOk};
-ghost use Rattle.definitions.specs.Ast.{Stmt};
-ghost use Rattle.contract_nodes.specs.Nodes.{expr_in, exprs_in, count_of};
+ghost use Rattle.definitions.specs.Ast.{Stmt as Tree};
+ghost use Rattle.contract_nodes.specs.Nodes.{expr_in, exprs_in, count_of, simple_is, SimpleParts};
 ghost use Rattle.lower_walk.specs.Grown.{Grown, LocalMade};
 ghost use Rattle.contract_nodes.specs.declared.contract.Contract.{Contract};
-ghost use Rattle.lower_simple.specs.Stated.{stated, let_stated, stmt_on, return_on, OnSheet};
+ghost use Rattle.lower_names.specs.Stated.{stated, let_stated, stmt_on};
+ghost use Rattle.lower_simple.specs.Returned.{return_on, OnSheet};
 
 use contract_lookup::symbols::storage_slot;
-use contract_nodes::{Expr, Exprs};
+use contract_nodes::{Expr, Exprs, SimpleNode, Stmt};
 use ir::{IrType, LocalId, Name};
 use lower_emit::{Args, emit_assert, emit_event, emit_state_write, emit_write_local};
 use lower_exprs::{lower_expr, lower_expr_value};
@@ -24,7 +25,7 @@ pub fn lower_let(
     scopes: &Scopes,
     e: Expr,
 ) -> Result<(LocalId, IrType), LoweringError>
-    ensures is { (p n : ℕ) → let_stated ctx.new scopes.now n result ≡ stmt_on e.entry.contract scopes.now (Stmt.Let p n (expr_in e.entry)) ctx.old }
+    ensures is { (p n : ℕ) → let_stated ctx.new scopes.now n result ≡ stmt_on e.entry.contract scopes.now (Tree.Let p n (expr_in e.entry)) ctx.old }
     ensures made { IfOk result (λ made. LocalMade ctx.old ctx.new) }
     ensures grown { Grown ctx.old ctx.new }
 {
@@ -35,8 +36,8 @@ pub fn lower_let(
 
 // Constrain.
 #[tactic(auto, unfolding(lower_walk::specs::Stmts::walk_stmt))]
-pub fn lower_constrain(ctx: &mut FnCtx, scopes: &Scopes, e: Expr) -> Result<(), LoweringError>
-    ensures is { (p : ℕ) → stated ctx.new scopes.now result ≡ stmt_on e.entry.contract scopes.now (Stmt.Constrain p (expr_in e.entry)) ctx.old }
+fn lower_constrain(ctx: &mut FnCtx, scopes: &Scopes, e: Expr) -> Result<(), LoweringError>
+    ensures is { (p : ℕ) → stated ctx.new scopes.now result ≡ stmt_on e.entry.contract scopes.now (Tree.Constrain p (expr_in e.entry)) ctx.old }
     ensures grown { Grown ctx.old ctx.new }
 {
     let (value, _) = lower_expr_value(ctx, scopes, e)?;
@@ -46,13 +47,8 @@ pub fn lower_constrain(ctx: &mut FnCtx, scopes: &Scopes, e: Expr) -> Result<(), 
 
 // Assign: the expression, then the name.
 #[tactic(auto, unfolding(lower_walk::specs::Stmts::walk_stmt))]
-pub fn lower_assign(
-    ctx: &mut FnCtx,
-    scopes: &Scopes,
-    name: Name,
-    e: Expr,
-) -> Result<(), LoweringError>
-    ensures is { (p : ℕ) → stated ctx.new scopes.now result ≡ stmt_on e.entry.contract scopes.now (Stmt.Assign p name.0 (expr_in e.entry)) ctx.old }
+fn lower_assign(ctx: &mut FnCtx, scopes: &Scopes, name: Name, e: Expr) -> Result<(), LoweringError>
+    ensures is { (p : ℕ) → stated ctx.new scopes.now result ≡ stmt_on e.entry.contract scopes.now (Tree.Assign p name.0 (expr_in e.entry)) ctx.old }
     ensures grown { Grown ctx.old ctx.new }
 {
     let (value, _) = lower_expr_value(ctx, scopes, e)?;
@@ -65,13 +61,13 @@ pub fn lower_assign(
 
 // StorageWrite: the name, then the expression.
 #[tactic(auto, unfolding(lower_walk::specs::Stmts::walk_stmt, contract_lookup::specs::Answers::slot_named))]
-pub fn lower_storage_write(
+fn lower_storage_write(
     ctx: &mut FnCtx,
     scopes: &Scopes,
     name: Name,
     e: Expr,
 ) -> Result<(), LoweringError>
-    ensures is { (p : ℕ) → stated ctx.new scopes.now result ≡ stmt_on e.entry.contract scopes.now (Stmt.StorageWrite p name.0 (expr_in e.entry)) ctx.old }
+    ensures is { (p : ℕ) → stated ctx.new scopes.now result ≡ stmt_on e.entry.contract scopes.now (Tree.StorageWrite p name.0 (expr_in e.entry)) ctx.old }
     ensures grown { Grown ctx.old ctx.new }
 {
     let slot = storage_slot(e.contract, name).ok_or(LoweringError::UndefinedVariable(name))?;
@@ -82,11 +78,7 @@ pub fn lower_storage_write(
 
 // Return, of a value or of none.
 #[tactic(auto, unfolding(lower_walk::specs::Stmts::walk_stmt, lower_walk::specs::Stmts::walk_return))]
-pub fn lower_return(
-    ctx: &mut FnCtx,
-    scopes: &Scopes,
-    value: Option<Expr>,
-) -> Result<(), LoweringError>
+fn lower_return(ctx: &mut FnCtx, scopes: &Scopes, value: Option<Expr>) -> Result<(), LoweringError>
     ensures is { (K : Contract) (p : ℕ) → OnSheet K value.entry → stated ctx.new scopes.now result ≡ return_on K scopes.now p value.entry ctx.old }
     ensures grown { Grown ctx.old ctx.new }
 {
@@ -99,14 +91,14 @@ pub fn lower_return(
 }
 
 // Emit: the arguments, then the event. The loop over arguments stands in `lower_exprs::lower_call` too, where the reason stands.
-pub fn lower_emit_stmt(
+fn lower_emit_stmt(
     ctx: &mut FnCtx,
     scopes: &Scopes,
     event: Name,
     args: Exprs,
 ) -> Result<(), LoweringError>
     requires { count_of (exprs_in args) ≤ 16 }
-    ensures is { (p : ℕ) → stated ctx.new scopes.now result ≡ stmt_on args.entry.contract scopes.now (Stmt.Emit p event.0 (exprs_in args.entry)) ctx.old }
+    ensures is { (p : ℕ) → stated ctx.new scopes.now result ≡ stmt_on args.entry.contract scopes.now (Tree.Emit p event.0 (exprs_in args.entry)) ctx.old }
     ensures grown { Grown ctx.old ctx.new }
 {
     let mut values = Args::new();
@@ -120,10 +112,32 @@ pub fn lower_emit_stmt(
 
 // An expression as a statement; what it gives is not used.
 #[tactic(auto, unfolding(lower_walk::specs::Stmts::walk_stmt))]
-pub fn lower_expr_stmt(ctx: &mut FnCtx, scopes: &Scopes, e: Expr) -> Result<(), LoweringError>
-    ensures is { (p : ℕ) → stated ctx.new scopes.now result ≡ stmt_on e.entry.contract scopes.now (Stmt.ExprStmt p (expr_in e.entry)) ctx.old }
+fn lower_expr_stmt(ctx: &mut FnCtx, scopes: &Scopes, e: Expr) -> Result<(), LoweringError>
+    ensures is { (p : ℕ) → stated ctx.new scopes.now result ≡ stmt_on e.entry.contract scopes.now (Tree.ExprStmt p (expr_in e.entry)) ctx.old }
     ensures grown { Grown ctx.old ctx.new }
 {
     lower_expr(ctx, scopes, e)?;
     Ok(())
+}
+
+// What `node` says a statement is, for every kind but Let. The statement itself is handed on for the promise, which names its contract and its place.
+pub fn lower_simple(
+    ctx: &mut FnCtx,
+    scopes: &Scopes,
+    t: Stmt,
+    node: SimpleNode,
+) -> Result<(), LoweringError>
+    requires { SimpleParts t node }
+    ensures is { stated ctx.new scopes.now result ≡ stmt_on t.entry.contract scopes.now (simple_is t.entry.at node.entry) ctx.old }
+    ensures grown { Grown ctx.old ctx.new }
+{
+    match node {
+        SimpleNode::Constrain(e) => lower_constrain(ctx, scopes, e),
+        SimpleNode::Assign(name, e) => lower_assign(ctx, scopes, name, e),
+        SimpleNode::StorageWrite(name, e) => lower_storage_write(ctx, scopes, name, e),
+        SimpleNode::MappingWrite(_, _, _) => Err(LoweringError::MappingWrite),
+        SimpleNode::Return(value) => lower_return(ctx, scopes, value),
+        SimpleNode::Emit(event, args) => lower_emit_stmt(ctx, scopes, event, args),
+        SimpleNode::Expr(e) => lower_expr_stmt(ctx, scopes, e),
+    }
 }

@@ -1,18 +1,16 @@
 -- What the walk of a statement is in the nodes' words. Assumes nothing.
 use mathlib.Core.Path.{◌≡◌, refl}
 use Prim.Native.Nat.{ℕ}
-use Rattle.std.specs.Prelude.{Option, None, Some}
 use Rattle.std.proofs.Common.{inl, inr}
 use Rattle.definitions.specs.Ast.{Contract}
-use Rattle.contract_nodes.specs.Nodes.{stmt_in, stmts_in, IfIs, StmtParts}
+use Rattle.contract_nodes.specs.Nodes.{stmt_in, stmts_in, IfIs}
 use Rattle.contract_nodes.specs.declared.expr.Expr.{Expr}
 use Rattle.contract_nodes.specs.declared.stmt.Stmt.{Stmt}
 use Rattle.contract_nodes.specs.declared.stmt.Stmts.{Stmts}
-use Rattle.contract_nodes.specs.declared.stmt.StmtNode.TheVariants as stmt
 use Rattle.lower_walk.specs.Held.{Held}
 use Rattle.lower_walk.specs.Stmts.{LogCtx, walk_if, walk_stmt, walk_stmts, walk_else}
 use Rattle.lower_names.specs.HeldNames.{HeldNames}
-use Rattle.lower_simple.specs.Stated.{stmt_on, OnSheet}
+use Rattle.lower_names.specs.Stated.{stmt_on}
 use Rattle.lower_stmts.specs.Bodies.{if_nodes}
 
 -- IF: an arm that is absent is one without statements
@@ -27,8 +25,3 @@ module _ {t : Stmt} {e : Expr} {a b : Stmts} (i : IfIs t e a b) where
   pub if_walk : e.contract.sheet.now ≡ t.contract.sheet.now → (h : HeldNames) (c : LogCtx) → if_nodes e a b h c ≡ stmt_on t.contract h (stmt_in t) c
   unfolding walk_if walk_stmt
   if_walk q h c = rw (i.is, q) (simp other_arm refl)
-
--- RETURN: its value is of its sheet
-pub on_sheet : (t : Stmt) (value : Option Expr) → StmtParts t (stmt.Return value) → OnSheet t.contract value
-on_sheet t None parts = tt
-on_sheet t (Some e) parts = parts.0

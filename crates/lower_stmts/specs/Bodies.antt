@@ -8,7 +8,7 @@ use Rattle.contract_nodes.specs.declared.stmt.Stmts.{Stmts}
 use Rattle.lower_walk.specs.Held.{Held}
 use Rattle.lower_walk.specs.Stmts.{LogCtx, walk_if, walk_stmts}
 use Rattle.lower_names.specs.HeldNames.{HeldNames}
-use Rattle.lower_simple.specs.Stated.{stmt_on}
+use Rattle.lower_names.specs.Stated.{stmt_on}
 
 -- each name that is held has a local, and statements so deep open at most 40 scopes
 pub record HasRoom (c : LogCtx) (h : HeldNames) (deep : ℕ) : Type 0 where

@@ -10,7 +10,7 @@ ghost use Rattle.contract_nodes.specs.Nodes.{contract_in, stmt_in, stmts_in};
 ghost use Rattle.lower_walk.specs.Stmts.{walk_stmts};
 ghost use Rattle.lower_walk.specs.Grown.{Grown};
 ghost use Rattle.lower_state.specs.Answers.{done_after};
-ghost use Rattle.lower_simple.specs.Stated.{stated, stmt_on};
+ghost use Rattle.lower_names.specs.Stated.{stated, stmt_on};
 ghost use Rattle.lower_stmts.specs.Bodies.{HasRoom, OneSheet, if_nodes, while_nodes, for_nodes, Extends};
 
 use contract_nodes::{Expr, Stmt, StmtNode, Stmts};
@@ -18,6 +18,7 @@ use ir::{IrType, Name};
 use lower_control::{enter_if, enter_while, for_blocks, for_locals, leave_for};
 use lower_flow::next_arm;
 use lower_names::Scopes;
+use lower_simple::{lower_let, lower_simple};
 use lower_state::{FnCtx, LoweringError};
 
 // An arm or a body, in a scope of its own.
@@ -121,22 +122,16 @@ fn lower_stmt(ctx: &mut FnCtx, scopes: &mut Scopes, t: Stmt) -> Result<(), Lower
 {
     match t.node() {
         StmtNode::Let(name, e) => {
-            let (local, ty) = lower_simple::lower_let(ctx, scopes, e)?;
+            let (local, ty) = lower_let(ctx, scopes, e)?;
             scopes.declare(name, local, ty);
             Ok(())
         }
-        StmtNode::Constrain(e) => lower_simple::lower_constrain(ctx, scopes, e),
-        StmtNode::Assign(name, e) => lower_simple::lower_assign(ctx, scopes, name, e),
-        StmtNode::StorageWrite(name, e) => lower_simple::lower_storage_write(ctx, scopes, name, e),
-        StmtNode::MappingWrite(_, _, _) => Err(LoweringError::MappingWrite),
         StmtNode::If(condition, then, otherwise) => {
             lower_if(ctx, scopes, condition, then, otherwise)
         }
         StmtNode::While(condition, body) => lower_while(ctx, scopes, condition, body),
         StmtNode::For(name, start, end, body) => lower_for(ctx, scopes, name, start, end, body),
-        StmtNode::Return(value) => lower_simple::lower_return(ctx, scopes, value),
-        StmtNode::Emit(event, args) => lower_simple::lower_emit_stmt(ctx, scopes, event, args),
-        StmtNode::Expr(e) => lower_simple::lower_expr_stmt(ctx, scopes, e),
+        StmtNode::Simple(node) => lower_simple(ctx, scopes, t, node),
     }
 }
 

@@ -11,33 +11,6 @@ ghost use Rattle.io.specs.Counts.{IsPrefixLen};
 use format::MOST_BYTES;
 use line_text::LINE;
 use lower_line::LOWERED_LINE;
-use thiserror::Error;
-
-// What is asked of a sheet.
-#[derive(Clone, Copy)]
-enum Asked {
-    Lower,
-    Verify,
-    Check,
-}
-
-// A letter that asks nothing.
-#[derive(Clone, Copy, Debug, Error)]
-#[error("{0} asks nothing")]
-struct UnknownLetter(u8);
-
-impl TryFrom<u8> for Asked {
-    type Error = UnknownLetter;
-
-    fn try_from(letter: u8) -> Result<Asked, UnknownLetter> {
-        match letter {
-            b'L' => Ok(Asked::Lower),
-            b'V' => Ok(Asked::Verify),
-            b'C' => Ok(Asked::Check),
-            _ => Err(UnknownLetter(letter)),
-        }
-    }
-}
 
 // The longest sheet of a list: a byte more than a sheet may have, so that refusal 1 occurs.
 const LONGEST: usize = MOST_BYTES + 1;
@@ -91,11 +64,11 @@ fn replay_one(rt: &HostRuntime) -> Option<()> {
     let n = read_sheet(rt, head.length, &mut sheet)?;
     let sheet = &sheet[..n];
     let mut text = [0u8; LINE];
-    let k = match Asked::try_from(head.letter) {
-        Ok(Asked::Lower) => return print_lowered(rt, sheet),
-        Ok(Asked::Verify) => verify_line::verify_line(sheet, &mut text),
-        Ok(Asked::Check) => lower_line::contract_line(sheet, &mut text),
-        Err(UnknownLetter(_)) => return Some(()),
+    let k = match head.letter {
+        b'L' => return print_lowered(rt, sheet),
+        b'V' => verify_line::verify_line(sheet, &mut text),
+        b'C' => lower_line::contract_line(sheet, &mut text),
+        _ => return Some(()),
     };
     rt.write_all(&text[..k]).ok()
 }

@@ -1,10 +1,10 @@
 -- The cycle of statements meets its contracts; the depth left falls. Assumes nothing.
-use mathlib.Core.Path.{refl, ◌∙◌}
+use mathlib.Core.Path.{◌∙◌}
 use native.Mathlib.Omega.{arith}
 use borrow.Author.Rules.{rules}
-use Rattle.lower_walk.specs.Stmts.{walk_stmt, walk_stmts}
+use Rattle.lower_walk.specs.Stmts.{walk_stmts}
 use Rattle.lower_stmts.proofs.Names.{extends_on, one_more, same_behind}
-use Rattle.lower_stmts.proofs.Statements.{if_walk, on_sheet}
+use Rattle.lower_stmts.proofs.Statements.{if_walk}
 use Rattle.lower_stmts.proofs.+stmts.Goals as goal
 
 -- FOR (the names are the same behind a body that was refused and behind one that was not)
@@ -24,18 +24,9 @@ lower_for-returns-clause-same_names t c =
 pub lower_stmt-returns-in_ok-local-in-Let-clause-names : goal.lower_stmt-returns-in_ok-local-in-Let-clause-names
 lower_stmt-returns-in_ok-local-in-Let-clause-names t c = one_more c.declare.ensures
 
-pub lower_stmt-returns-in-MappingWrite-clause-is : goal.lower_stmt-returns-in-MappingWrite-clause-is
-unfolding walk_stmt
-lower_stmt-returns-in-MappingWrite-clause-is t c = rw c.in-MappingWrite.ensures.is refl
-
 pub lower_stmt-returns-in-If-clause-is : goal.lower_stmt-returns-in-If-clause-is
 lower_stmt-returns-in-If-clause-is t c =
     rw c.lower_if.ensures.same_names (c.lower_if.ensures.is ∙ if_walk c.in-If.ensures.is c.in-If.ensures.parts.0.0 _ _)
-
-pub lower_stmt-returns-in-Return-clause-is : goal.lower_stmt-returns-in-Return-clause-is
-lower_stmt-returns-in-Return-clause-is t c =
-    let s = c.args.t in
-    rw c.in-Return.ensures.is (c.lower_return.ensures.is s.contract s.at (on_sheet s _ c.in-Return.ensures.parts))
 
 -- STATEMENTS
 pub lower_stmts-loop-t-preserved : goal.lower_stmts-loop-t-preserved

@@ -1,10 +1,9 @@
 -- What a statement comes to, and what it leaves. Assumes nothing: these are definitions.
-use Rattle.std.specs.Prelude.{ℕ, ◌≡◌, ◌∷◌, Result, Option, IfSome}
+use Rattle.std.specs.Prelude.{ℕ, ◌∷◌, Result}
 use Rattle.definitions.specs.Ast.{Stmt}
 use Rattle.definitions.specs.Lower.{Lowering}
-use Rattle.contract_nodes.specs.Nodes.{contract_in, opt_expr_in}
+use Rattle.contract_nodes.specs.Nodes.{contract_in}
 use Rattle.contract_nodes.specs.declared.contract.Contract.{Contract}
-use Rattle.contract_nodes.specs.declared.expr.Expr.{Expr}
 use Rattle.lower_walk.specs.Held.{Held}
 use Rattle.lower_walk.specs.Stmts.{LogCtx, walk_stmt}
 use Rattle.ir.specs.Types.{as_type}
@@ -25,11 +24,3 @@ let_stated c h name r = with_state (λ p. held_name h.scope name p.0.0 (as_type 
 -- the walk of a statement of a contract, with the names that are held
 abbrev pub stmt_on : Contract → HeldNames → Stmt → LogCtx → Lowering (LogCtx × Held)
 stmt_on K h x c = walk_stmt (contract_in K) h.scope h.held x c
-
--- that of a Return, of a value or of none
-abbrev pub return_on : Contract → HeldNames → (p : ℕ) → Option Expr → LogCtx → Lowering (LogCtx × Held)
-return_on K h p value c = stmt_on K h (Stmt.Return p (opt_expr_in value)) c
-
--- a value, if there is one, is of the contract's sheet
-abbrev pub OnSheet : Contract → Option Expr → Type 0
-OnSheet K value = IfSome value (λ e. e.contract.sheet.now ≡ K.sheet.now)
