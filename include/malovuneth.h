@@ -17,7 +17,7 @@
  *   call returns, and that nobody else writes meanwhile; the numbers are six
  *   of size_t, aligned as such, and the bytes need no alignment;
  * - the memories that are lent to one call do not overlap;
- * - the stack has room: malovuneth_lower takes up to some 432 kB (on a sheet
+ * - the stack has room: malovuneth_lower takes up to some 302 kB (on a sheet
  *   that nests as deep as its length allows and is then refused), and
  *   malovuneth_verify less than 1 kB (docs/FIGURES.md; measured).
  *

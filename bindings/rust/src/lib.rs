@@ -49,7 +49,7 @@
 //!
 //! # Stack and threads
 //!
-//! Lowering takes up to some 432 kB of stack, and verifying less than 1 kB:
+//! Lowering takes up to some 302 kB of stack, and verifying less than 1 kB:
 //! the 2 MiB of a thread of the standard library are enough. Nothing is kept
 //! between calls, and any number of threads may call at once.
 //!

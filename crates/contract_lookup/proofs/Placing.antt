@@ -14,15 +14,15 @@ use borrow.Author.Tests.{eqb-true, eqb-false, leb-true, leb-false}
 use Rattle.definitions.specs.Ast.{Function}
 use Rattle.definitions.specs.Fields.{le}
 use Rattle.definitions.specs.Names.{last_named}
-use Rattle.definitions.specs.Records.{Tree, read_records}
-use Rattle.definitions.specs.ContractSheet.{function_of, read_contract}
+use Rattle.definitions.specs.Records.{Tree, read_records, gather}
+use Rattle.definitions.specs.ContractSheet.{struct_of, function_of, read_contract}
 use Rattle.definitions.proofs.Results.{by_test, some_none}
 use Rattle.definitions.proofs.Contracts.Limits.{TopKind, storage, struct, function, most_of}
 use Rattle.sheet.specs.Passed.{ContractPassed, record_kind, stop_of}
 use Rattle.contract_nodes.specs.Ready.{tree_at}
 use Rattle.contract_nodes.proofs.Order.{none_after}
 use Rattle.contract_nodes.proofs.Tops.{Tops, Top, next_top, contract_at}
-use Rattle.contract_lookup.specs.Answers.{nth_function, tree_name, records_of, last_of}
+use Rattle.contract_lookup.specs.Answers.{nth, tree_name, records_of, last_of}
 use Rattle.contract_lookup.specs.Listed.{Named, placed, place_of, Listed, LastAt}
 use Rattle.contract_lookup.proofs.Backwards.{last_here, last_not}
 use Rattle.contract_lookup.proofs.Lasts.{gather_map, these, these_all, these_end, these_here, these_past, all_few}
@@ -173,38 +173,47 @@ module _ {s places : List ℕ} (kind : ℕ) {n : ℕ} {left : List ℕ} (C : Con
       is = sym (last_not tree_name (tree_at s p) n (λ z. q (sym here.2 ∙ z)) 0 (map (tree_at s) before)) ∙ (ap (λ (ts : List Tree). last_named tree_name 0 ts n) (sym apart) ∙ W.is);
     }
 
--- THE i-TH FUNCTION
-nth_past : (fs : List Function) (i : ℕ) → length fs ≤ i → nth_function fs i ≡ none
+-- THE i-TH of a list
+nth_past : {A : Type 0} (xs : List A) (i : ℕ) → length xs ≤ i → nth xs i ≡ none
 nth_past [] i h = refl
-nth_past (f ∷ fs) zero h = absurd (omega (arith, h))
-nth_past (f ∷ fs) (suc i) h = nth_past fs i (omega (arith, h))
+nth_past (x ∷ xs) zero h = absurd (omega (arith, h))
+nth_past (x ∷ xs) (suc i) h = nth_past xs i (omega (arith, h))
 
 -- the functions from the i-th on, by what stands there
-pub none_from : (fs : List Function) (i : ℕ) → none ≡ nth_function fs i → drop i fs ≡ []
+pub none_from : (fs : List Function) (i : ℕ) → none ≡ nth fs i → drop i fs ≡ []
 none_from [] zero e = refl
 none_from [] (suc i) e = refl
 none_from (f ∷ fs) zero e = absurd (some_none f (sym e))
 none_from (f ∷ fs) (suc i) e = none_from fs i e
 
-pub here_from : (fs : List Function) (i : ℕ) {g : Function} → some g ≡ nth_function fs i → drop i fs ≡ g ∷ drop (suc i) fs
+pub here_from : (fs : List Function) (i : ℕ) {g : Function} → some g ≡ nth fs i → drop i fs ≡ g ∷ drop (suc i) fs
 here_from [] i e = absurd (some_none _ e)
 here_from (f ∷ fs) zero {g} e = let q : f ≡ g = cc in ap (λ h. h ∷ fs) q
 here_from (f ∷ fs) (suc i) e = here_from fs i e
 
-nth_placed : (s : List ℕ) (ps : List ℕ) (i : ℕ) → i < length ps → nth_function (map function_of (map (tree_at s) ps)) i ≡ some (function_of (tree_at s (get_or ps i 0)))
-nth_placed s [] i h = absurd (omega (arith, h))
-nth_placed s (p ∷ ps) zero h = refl
-nth_placed s (p ∷ ps) (suc i) h = nth_placed s ps i (omega (arith, h))
+-- THE STRUCTS AND THE FUNCTIONS: `all` is what the trees at the places are read as
+module _ {A : Type 0} (s : List ℕ) (of : Tree → A) where
+  nth_placed : (ps : List ℕ) (i : ℕ) → i < length ps → nth (map of (map (tree_at s) ps)) i ≡ some (of (tree_at s (get_or ps i 0)))
+  nth_placed [] i h = absurd (omega (arith, h))
+  nth_placed (p ∷ ps) zero h = refl
+  nth_placed (p ∷ ps) (suc i) h = nth_placed ps i (omega (arith, h))
 
-module _ {s : List ℕ} (places : List ℕ) (C : ContractPassed s) (L : Listed s 4 places) where
-  functions_are : (read_contract s).functions ≡ map function_of (placed s places)
-  functions_are = (contract_at C).functions ∙ (gather_map 4 function_of (read_records s 8 (length s)) ∙ ap (map function_of) (these_all 4 C ∙ sym (placed_are places 4 C L)))
+  module _ (places : List ℕ) {all : List A} (are : all ≡ map of (placed s places)) where
+    pub count_is : length places ≡ length all
+    count_is = sym (rw (are, length-map, length-map) refl)
 
-  pub function_count : length places ≡ length (read_contract s).functions
-  function_count = sym (rw (functions_are, length-map, length-map) refl)
+    pub no_nth : {i : ℕ} → length places ≤ i → none ≡ nth all i
+    no_nth {i} h = sym (nth_past all i (omega (arith, h, count_is)))
 
-  pub no_nth : {i : ℕ} → length places ≤ i → none ≡ nth_function (read_contract s).functions i
-  no_nth {i} h = sym (nth_past (read_contract s).functions i (omega (arith, h, function_count)))
+    pub nth_there : {i : ℕ} → i < length places → some (of (tree_at s (get_or places i 0))) ≡ nth all i
+    nth_there {i} h = sym (ap (λ xs. nth xs i) are ∙ nth_placed places i h)
 
-  pub nth_there : {i : ℕ} → i < length places → some (function_of (tree_at s (get_or places i 0))) ≡ nth_function (read_contract s).functions i
-  nth_there {i} h = sym (ap (λ fs. nth_function fs i) functions_are ∙ nth_placed s places i h)
+module _ {s : List ℕ} (places : List ℕ) (C : ContractPassed s) where
+  all_are : {A : Type 0} (kind : ℕ) (of : Tree → A) {all : List A} → all ≡ gather kind kind of (read_records s 8 (length s)) → Listed s kind places → all ≡ map of (placed s places)
+  all_are kind of e L = e ∙ (gather_map kind of (read_records s 8 (length s)) ∙ ap (map of) (these_all kind C ∙ sym (placed_are places kind C L)))
+
+  pub structs_are : Listed s 3 places → (read_contract s).structs ≡ map struct_of (placed s places)
+  structs_are L = all_are 3 struct_of (contract_at C).structs L
+
+  pub functions_are : Listed s 4 places → (read_contract s).functions ≡ map function_of (placed s places)
+  functions_are L = all_are 4 function_of (contract_at C).functions L

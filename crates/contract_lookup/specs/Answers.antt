@@ -19,10 +19,11 @@ abbrev pub second : {A : Type 0} → Option (ℕ × A) → Option A
 second none = none
 second (some p) = some p.1
 
-abbrev pub nth_function : List Function → ℕ → Option Function
-nth_function [] i = none
-nth_function (f ∷ fs) zero = some f
-nth_function (f ∷ fs) (suc i) = nth_function fs i
+-- the i-th of a list
+abbrev pub nth : {A : Type 0} → List A → ℕ → Option A
+nth [] i = none
+nth (x ∷ xs) zero = some x
+nth (x ∷ xs) (suc i) = nth xs i
 
 -- a record of the contract: its position among those of its kind, and the record
 abbrev pub found_in : List ℕ → Maybe Found → Option (ℕ × Tree)

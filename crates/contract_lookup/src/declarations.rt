@@ -7,7 +7,7 @@ ghost use Rattle.definitions.specs.Sema.{function_named};
 ghost use Rattle.format.specs.Kinds.{declaration_number};
 ghost use Rattle.ir.specs.Answers.{option_of};
 ghost use Rattle.contract_nodes.specs.Nodes.{contract_in, struct_in, function_in};
-ghost use Rattle.contract_lookup.specs.Answers.{second, nth_function};
+ghost use Rattle.contract_lookup.specs.Answers.{second, nth};
 ghost use Rattle.contract_lookup.specs.Listed.{Listed, LastAt};
 
 use crate::symbols::past;
@@ -90,6 +90,30 @@ impl<'a> Structs<'a> {
         Structs { contract, places }
     }
 
+    // How many there are.
+    pub fn len(&self) -> usize
+        ensures is { result ≡ length (contract_in self.now.contract).structs }
+        ensures most { result ≤ 64 }
+    {
+        self.places.as_slice().len()
+    }
+
+    // The i-th of them.
+    pub fn get(&self, i: usize) -> Option<Struct<'a>>
+        ensures is { option_of struct_in result ≡ nth (contract_in self.now.contract).structs i }
+        ensures most { IfSome result (λ x. i < 64) }
+        ensures same_sheet { IfSome result (λ x. x.contract.sheet.now ≡ self.now.contract.sheet.now) }
+    {
+        let places = self.places.as_slice();
+        if places.len() <= i {
+            return None;
+        }
+        Some(Struct {
+            contract: self.contract,
+            at: places[i] as usize,
+        })
+    }
+
     // The last of a name.
     pub fn named(&self, name: Name) -> Option<Struct<'a>>
         ensures is { option_of struct_in result ≡ second (struct_named (contract_in self.now.contract) name.0) }
@@ -132,7 +156,7 @@ impl<'a> Functions<'a> {
 
     // The i-th of them.
     pub fn get(&self, i: usize) -> Option<Function<'a>>
-        ensures is { option_of function_in result ≡ nth_function (contract_in self.now.contract).functions i }
+        ensures is { option_of function_in result ≡ nth (contract_in self.now.contract).functions i }
         ensures most { IfSome result (λ f. i < 64) }
         ensures same_sheet { IfSome result (λ f. f.contract.sheet.now ≡ self.now.contract.sheet.now) }
     {

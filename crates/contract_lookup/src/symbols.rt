@@ -19,9 +19,9 @@ use reader::{read, read_u16};
 
 // A record of the contract: its position among those of its kind, and its place.
 #[derive(Clone, Copy)]
-struct Found {
-    position: usize,
-    at: usize,
+pub struct Found {
+    pub position: usize,
+    pub at: usize,
 }
 
 // A function's id and the type of a call of it.
@@ -44,7 +44,7 @@ pub(crate) fn past(s: &[u8], at: usize, kind: u16) -> usize
 
 // The last record of a kind that has a name. None comes after a record of a higher kind. A loop of its own, as `places_of` and for its reason.
 // Kinds are compared by their numbers: decoded as a `Declaration`, 64 structs behind 256 storage fields take 3.6 percent more instructions.
-fn last_named(contract: Contract, kind: Declaration, name: Name) -> Option<Found>
+pub fn last_named(contract: Contract, kind: Declaration, name: Name) -> Option<Found>
     ensures is { found_in contract.entry.sheet.now result ≡ last_of contract.entry.sheet.now (declaration_number kind) name.0 }
     ensures stands { StandsAt contract.entry.sheet.now (declaration_number kind) result }
 {
@@ -154,13 +154,13 @@ pub fn field_position(of: Struct, name: Name) -> Option<usize>
     of.fields().position(|f| f.name == name)
 }
 
-// The type of the last field of a name.
+// The type of the last field of a name. From the last field on backwards, so that the first hit serves.
 pub fn field_type(of: Struct, name: Name) -> Option<IrType>
     ensures { option_of as_type result ≡ field_type_named (struct_in of.entry).fields name.0 }
 {
     of.fields()
-        .filter(|f| f.name == name)
-        .last()
+        .rev()
+        .find(|f| f.name == name)
         .map(|f| from_str(f.ty))
 }
 

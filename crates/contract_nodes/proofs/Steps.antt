@@ -1,6 +1,6 @@
 -- What the nodes' functions cite: the kinds by their numbers, pairs of a name and a type by their position, and the fields of a struct literal. Assumes nothing.
 use mathlib.Core.Path.{◌≡◌, refl, ap, ap₂, sym, ◌∙◌, subst}
-use mathlib.Core.List.{List, [], ◌∷◌}
+use mathlib.Core.List.{List, [], ◌∷◌, ◌++◌}
 use mathlib.Core.Option.{some}
 use Prim.Native.Nat.{ℕ, zero, suc, ◌+◌, ◌-◌, ◌*◌, ◌<◌, ◌≤◌}
 use native.Mathlib.Omega.{arith}
@@ -146,6 +146,15 @@ one_less n e h =
 pub first_param : (s : List ℕ) (at : ℕ) {n m : ℕ} (p : Param) → n ≡ suc m → (p.name.0 ≡ le 2 s at) × (p.ty.0 ≡ le 2 s (at + 2)) → params_from s at n ≡ record { name = p.name.0; ty = p.ty.0 } ∷ params_from s (at + 4) m
 unfolding params_from
 first_param s at p e is = rw (e, is.0, is.1)
+
+-- or the last and what is before it
+params_end : (s : List ℕ) (m at : ℕ) → params_from s at (suc m) ≡ params_from s at m ++ record { name = le 2 s (at + 4 * m); ty = le 2 s (at + 4 * m + 2) } ∷ []
+unfolding params_from
+params_end s zero at = let e : at + 4 * 0 ≡ at = omega arith in rw e
+params_end s (suc m) at = let e : at + 4 * suc m ≡ at + 4 + 4 * m = omega arith in rw (e, params_end s m (at + 4))
+
+pub last_param : (s : List ℕ) (at : ℕ) {n m : ℕ} (p : Param) → n ≡ suc m → (p.name.0 ≡ le 2 s (at + 4 * m)) × (p.ty.0 ≡ le 2 s (at + 4 * m + 2)) → params_from s at n ≡ params_from s at m ++ record { name = p.name.0; ty = p.ty.0 } ∷ []
+last_param s at {n} {m} p e is = rw (e, is.0, is.1) (params_end s m at)
 
 -- WHAT STANDS in a function and in a struct of a contract
 abbrev pub FunctionHere : Function → Type 0

@@ -1,5 +1,5 @@
 -- What the nodes stand for: the trees of the definitions. Assumes nothing: these are definitions.
-use Rattle.std.specs.Prelude.{ℕ, zero, suc, ◌+◌, ◌≤◌, ◌<◌, ◌≡◌, ◌⊎◌, List, [], ◌∷◌, Option, None, Some}
+use Rattle.std.specs.Prelude.{ℕ, zero, suc, ◌+◌, ◌≤◌, ◌<◌, ◌≡◌, ◌⊎◌, List, [], ◌∷◌, ◌++◌, Option, None, Some}
 use Rattle.std.proofs.Math.Option as maths
 use Rattle.definitions.specs.Ast as ast
 use Rattle.definitions.specs.Lower.{count}
@@ -78,6 +78,15 @@ pub record NextParam (old new : ParamIter) (p : Param) : Type 0 where
 abbrev pub TakesNextParam : ParamIter → Option Param → ParamIter → Type 0
 TakesNextParam old None new = params_left old ≡ []
 TakesNextParam old (Some p) new = NextParam old new p
+
+-- the last of them is taken
+pub record LastParam (old new : ParamIter) (p : Param) : Type 0 where
+  pub is : params_left old ≡ params_left new ++ record { name = p.name.0; ty = p.ty.0 } ∷ []
+  pub left : old.left ≡ suc new.left
+
+abbrev pub TakesLastParam : ParamIter → Option Param → ParamIter → Type 0
+TakesLastParam old None new = params_left old ≡ []
+TakesLastParam old (Some p) new = LastParam old new p
 
 abbrev pub count_of : ast.Exprs → ℕ
 count_of es = count es

@@ -71,6 +71,13 @@ impl<'a> Struct<'a> {
     ghost use Rattle.std.specs.Prelude.{◌≡◌};
     ghost use Rattle.contract_nodes.specs.Nodes.{struct_in, params_left};
 
+    pub fn name(self) -> Name
+        ensures { result.0 ≡ (struct_in self.entry).name }
+    {
+        let at = self.at + contract::NAME;
+        Name::new(read_u16(self.contract.sheet, at))
+    }
+
     // Its fields.
     pub fn fields(self) -> ParamIter<'a>
         ensures is { params_left result ≡ (struct_in self.entry).fields }
@@ -181,5 +188,17 @@ impl Iterator for ParamIter<'_> {
         let param = Param::new(self.contract.sheet, self.at);
         self.at += contract::PARAM;
         Some(param)
+    }
+}
+
+impl DoubleEndedIterator for ParamIter<'_> {
+    ghost use Rattle.contract_nodes.specs.Nodes.{TakesLastParam};
+
+    ghost next_back_gives = { TakesLastParam };
+
+    fn next_back(&mut self) -> Option<Param> {
+        self.left = self.left.checked_sub(1)?;
+        let last = self.at + contract::PARAM * self.left;
+        Some(Param::new(self.contract.sheet, last))
     }
 }

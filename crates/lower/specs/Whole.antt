@@ -1,5 +1,5 @@
--- The parts of lowering that lead from the walk of each function to the answer. Untrusted, but for `answer_of`, which gives document
--- 01's number and values for each answer.
+-- The parts of lowering that lead from the walk of each function to the answer. Untrusted, but for `answer_of` and `refusal_of`, which give
+-- document 01's number and values for each answer.
 use Rattle.std.specs.Prelude.{ℕ, ◌≤◌, ◌≡◌, ◌&&◌, List, [], ◌++◌, leb, length, take}
 use Rattle.std.specs.Prelude as code
 use Rattle.definitions.specs.Fields.{bytes}

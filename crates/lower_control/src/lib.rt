@@ -7,6 +7,7 @@ ghost use Rattle.lower_walk.specs.Stmts.{enter_if, enter_while, two_locals, for_
 ghost use Rattle.lower_walk.specs.Grown.{Grown, LocalMade};
 ghost use Rattle.lower_state.specs.Answers.{with_state, KeptIfErr};
 ghost use Rattle.lower_state.specs.State.{blocks_of, BlocksMade};
+ghost use Rattle.lower_values.specs.Values.{LogAloneIfErr};
 ghost use Rattle.lower_control.specs.Bounds.{bounds_of, locals_of};
 
 use contract_nodes::Expr;
@@ -35,8 +36,9 @@ pub fn enter_if(
     ensures is { with_state blocks_of ctx.new result ≡ enter_if (contract_in condition.entry.contract) scopes.now.held (expr_in condition.entry) ctx.old }
     ensures among { IfOk result (λ blocks. BlocksMade ctx.new blocks) }
     ensures grown { Grown ctx.old ctx.new }
+    ensures refused { LogAloneIfErr result ctx.old ctx.new }
 {
-    let (value, _) = lower_expr_value(ctx, scopes, condition)?;
+    let value = lower_expr_value(ctx, scopes, condition)?.0;
     let blocks = ctx.three_blocks()?;
     branch(ctx, value, blocks.first, blocks.second);
     ctx.switch_to(blocks.first);

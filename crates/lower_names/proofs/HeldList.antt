@@ -7,7 +7,7 @@ use Prim.Native.Nat.{ℕ, ◌-◌, ◌≤◌}
 use lib.Dec.{eqb}
 use lib.ListN.{length, take, drop}
 use lib.Seq.{drop-append_seam}
-use Rattle.std.proofs.lemmas.List.{reverse-append, length-map, length-reverse, length-drop, map-append, take-append-drop}
+use Rattle.std.proofs.lemmas.List.{reverse-append, length-drop, map-append, take-append-drop}
 use Rattle.std.specs.List.{find}
 use Rattle.std.specs.Option.{option_map}
 use Rattle.definitions.specs.Ir.{IrType}
@@ -16,15 +16,13 @@ use Rattle.definitions.proofs.Results.{by_test}
 use Rattle.ir.specs.Answers.{option_of}
 use Rattle.ir.specs.Types.{as_type}
 use Rattle.lower_walk.specs.Held.{Held, names}
+use Rattle.lower_names.specs.Back.{held_length}
 use Rattle.lower_names.specs.HeldNames.{HeldNames, with_name, outside}
 use Rattle.lower_names.specs.Scopes.{held_of, held_in, local_of}
 use Rattle.lower_names.specs.declared.held.HeldName.{HeldName}
 
 one_more : (l : List HeldName) (e : HeldName) → held_in (l ++ (e ∷ [])) ≡ held_of e ∷ held_in l
 one_more l e = rw reverse-append refl
-
-held_length : (l : List HeldName) → length (held_in l) ≡ length l
-held_length l = rw (length-map, length-reverse) refl
 
 held_drop : (l : List HeldName) (m : ℕ) → m ≤ length l → held_in (take m l) ≡ drop (length l - m) (held_in l)
 held_drop l m h =

@@ -1,3 +1,4 @@
+pub mod Back
 pub mod HeldNames
 pub mod Scopes
 pub mod Stated

@@ -1,11 +1,10 @@
 // The names that are held.
-use arrayvec::ArrayVec;
 use ir::{IrType, LocalId, Name};
 use lower_state::MOST_LOCALS;
 use std::marker::Model;
 
 // A name with the number of its scope, its local and its type.
-#[derive(Clone, Copy, Default)]
+#[derive(Clone, Copy)]
 struct HeldName {
     name: Name,
     scope: u16,
@@ -13,23 +12,40 @@ struct HeldName {
     ty: IrType,
 }
 
+// What stands where no name is held.
+const BLANK: HeldName = HeldName {
+    name: Name::EMPTY,
+    scope: 0,
+    local: LocalId(0),
+    ty: IrType::U64,
+};
+
 // The names that are held in all open scopes, newest last, and the number of the innermost scope: a function's own is 0, and an arm or a
 // body is one more than what it stands in. Each name has a local, so that at most so many are held as there may be locals.
-#[derive(Drop)]
+#[derive(Clone, Copy)]
 pub struct Scopes {
-    names: ArrayVec<HeldName, MOST_LOCALS>,
+    names: [HeldName; MOST_LOCALS],
+    count: usize,
     scope: u16,
 }
 
-// A clause sees the names, newest first, and the scope.
+// A clause sees the names, newest first, and the scope. They give the array back, as a Copy type needs, since it is blank behind the count.
 impl Model for Scopes {
     ghost use Rattle.lower_names.specs.HeldNames.{HeldNames};
 
     ghost Value = { HeldNames };
 
-    ghost use Rattle.lower_names.specs.Scopes.{held_names_in};
+    ghost use Rattle.lower_names.specs.Scopes.{held_names_in, NamesFit};
 
     ghost view = { held_names_in };
+
+    ghost invariant = { NamesFit };
+
+    ghost use Rattle.lower_names.specs.Back.{names_back, back_again};
+
+    ghost inverse = { names_back };
+
+    ghost inverse_ok = { back_again };
 }
 
 impl Scopes {
@@ -46,7 +62,8 @@ impl Scopes {
         ensures { result ≡ record { held = []; scope = 0 } }
     {
         Scopes {
-            names: ArrayVec::new(),
+            names: [BLANK; MOST_LOCALS],
+            count: 0,
             scope: 0,
         }
     }
@@ -55,15 +72,14 @@ impl Scopes {
     pub fn len(&self) -> usize
         ensures { result ≡ length self.now.held }
     {
-        self.names.len()
+        self.count
     }
 
     // The local and type that a name stands for: those of the newest that is held.
     pub fn lookup(&self, name: Name) -> Option<(LocalId, IrType)>
         ensures { option_of local_of result ≡ in_scope name.0 (names self.now.held) }
     {
-        self.names
-            .as_slice()
+        self.names[..self.count]
             .iter()
             .rev()
             .find(|e| e.name == name)
@@ -75,12 +91,13 @@ impl Scopes {
         requires { length self.old.held < 256 }
         ensures { self.new ≡ with_name name.0 local.0 (as_type ty) self.old }
     {
-        self.names.push(HeldName {
+        self.names[self.count] = HeldName {
             name,
             scope: self.scope,
             local,
             ty,
-        });
+        };
+        self.count += 1;
     }
 
     // A scope is opened inside the innermost one.
@@ -96,7 +113,8 @@ impl Scopes {
         requires { (mark ≤ length self.old.held) × (0 < self.old.scope) }
         ensures { self.new ≡ outside mark self.old }
     {
-        self.names.truncate(mark);
+        self.names[mark..self.count].fill(BLANK);
+        self.count = mark;
         self.scope -= 1;
     }
 }

@@ -6,6 +6,7 @@ ghost use Rattle.definitions.specs.Ast.{Stmt as Tree};
 ghost use Rattle.contract_nodes.specs.Nodes.{expr_in, exprs_in, count_of, simple_is, SimpleParts};
 ghost use Rattle.lower_walk.specs.Grown.{Grown, LocalMade};
 ghost use Rattle.contract_nodes.specs.declared.contract.Contract.{Contract};
+ghost use Rattle.lower_values.specs.Values.{LogAloneIfErr};
 ghost use Rattle.lower_names.specs.Stated.{stated, let_stated, stmt_on};
 ghost use Rattle.lower_simple.specs.Returned.{return_on, OnSheet};
 
@@ -28,6 +29,7 @@ pub fn lower_let(
     ensures is { (p n : ℕ) → let_stated ctx.new scopes.now n result ≡ stmt_on e.entry.contract scopes.now (Tree.Let p n (expr_in e.entry)) ctx.old }
     ensures made { IfOk result (λ made. LocalMade ctx.old ctx.new) }
     ensures grown { Grown ctx.old ctx.new }
+    ensures refused { LogAloneIfErr result ctx.old ctx.new }
 {
     let (value, ty) = lower_expr_value(ctx, scopes, e)?;
     let local = init_local(ctx, ty, value)?;
@@ -39,6 +41,7 @@ pub fn lower_let(
 fn lower_constrain(ctx: &mut FnCtx, scopes: &Scopes, e: Expr) -> Result<(), LoweringError>
     ensures is { (p : ℕ) → stated ctx.new scopes.now result ≡ stmt_on e.entry.contract scopes.now (Tree.Constrain p (expr_in e.entry)) ctx.old }
     ensures grown { Grown ctx.old ctx.new }
+    ensures refused { LogAloneIfErr result ctx.old ctx.new }
 {
     let (value, _) = lower_expr_value(ctx, scopes, e)?;
     emit_assert(ctx, value);
@@ -50,6 +53,7 @@ fn lower_constrain(ctx: &mut FnCtx, scopes: &Scopes, e: Expr) -> Result<(), Lowe
 fn lower_assign(ctx: &mut FnCtx, scopes: &Scopes, name: Name, e: Expr) -> Result<(), LoweringError>
     ensures is { (p : ℕ) → stated ctx.new scopes.now result ≡ stmt_on e.entry.contract scopes.now (Tree.Assign p name.0 (expr_in e.entry)) ctx.old }
     ensures grown { Grown ctx.old ctx.new }
+    ensures refused { LogAloneIfErr result ctx.old ctx.new }
 {
     let (value, _) = lower_expr_value(ctx, scopes, e)?;
     let (local, _) = scopes
@@ -69,6 +73,7 @@ fn lower_storage_write(
 ) -> Result<(), LoweringError>
     ensures is { (p : ℕ) → stated ctx.new scopes.now result ≡ stmt_on e.entry.contract scopes.now (Tree.StorageWrite p name.0 (expr_in e.entry)) ctx.old }
     ensures grown { Grown ctx.old ctx.new }
+    ensures refused { LogAloneIfErr result ctx.old ctx.new }
 {
     let slot = storage_slot(e.contract, name).ok_or(LoweringError::UndefinedVariable(name))?;
     let (value, _) = lower_expr_value(ctx, scopes, e)?;
@@ -81,6 +86,7 @@ fn lower_storage_write(
 fn lower_return(ctx: &mut FnCtx, scopes: &Scopes, value: Option<Expr>) -> Result<(), LoweringError>
     ensures is { (K : Contract) (p : ℕ) → OnSheet K value.entry → stated ctx.new scopes.now result ≡ return_on K scopes.now p value.entry ctx.old }
     ensures grown { Grown ctx.old ctx.new }
+    ensures refused { LogAloneIfErr result ctx.old ctx.new }
 {
     let value = match value {
         Some(e) => Some(lower_expr_value(ctx, scopes, e)?.0),
@@ -100,6 +106,7 @@ fn lower_emit_stmt(
     requires { count_of (exprs_in args) ≤ 16 }
     ensures is { (p : ℕ) → stated ctx.new scopes.now result ≡ stmt_on args.entry.contract scopes.now (Tree.Emit p event.0 (exprs_in args.entry)) ctx.old }
     ensures grown { Grown ctx.old ctx.new }
+    ensures refused { LogAloneIfErr result ctx.old ctx.new }
 {
     let mut values = Args::new();
     for arg in args {
@@ -115,6 +122,7 @@ fn lower_emit_stmt(
 fn lower_expr_stmt(ctx: &mut FnCtx, scopes: &Scopes, e: Expr) -> Result<(), LoweringError>
     ensures is { (p : ℕ) → stated ctx.new scopes.now result ≡ stmt_on e.entry.contract scopes.now (Tree.ExprStmt p (expr_in e.entry)) ctx.old }
     ensures grown { Grown ctx.old ctx.new }
+    ensures refused { LogAloneIfErr result ctx.old ctx.new }
 {
     lower_expr(ctx, scopes, e)?;
     Ok(())
@@ -130,6 +138,7 @@ pub fn lower_simple(
     requires { SimpleParts t node }
     ensures is { stated ctx.new scopes.now result ≡ stmt_on t.entry.contract scopes.now (simple_is t.entry.at node.entry) ctx.old }
     ensures grown { Grown ctx.old ctx.new }
+    ensures refused { LogAloneIfErr result ctx.old ctx.new }
 {
     match node {
         SimpleNode::Constrain(e) => lower_constrain(ctx, scopes, e),

@@ -31,7 +31,7 @@ lost_log l x None w h = sym (lost x (record { value = w; at = suc room; bytes = 
 lost_log l x (Some n) w h = absurd (h n refl)
 
 -- there is no room for x
-pub put_lost : (l x : List ℕ) (at : ℕ) → room < at + length x → Added l at x l None
+pub put_lost : {m : List ℕ} (l x : List ℕ) (at : ℕ) → room < at + length x → Added l at x m None
 put_lost l x at h = record { is = λ w. sym (lost x (log_of l w at) (go (leb at room) refl)); fits = tt }
   where
     go : (t : Bool) → leb at room ≡ t → room < capped at + length x

@@ -1,3 +1,4 @@
 pub mod Appending
+pub mod Blanks
 pub mod Items
 pub mod Spans

@@ -30,7 +30,7 @@ pub struct ThreeBlocks {
 // block's records stand. The current block and `ended` are no Option of an open block: the state of the walk, which a clause sees, has the
 // current block behind its terminator too. The two lists are arrays: the counters have their lengths, which an ArrayVec would count again
 // (tried for the locals: as fast).
-#[derive(Drop)]
+#[derive(Clone, Copy)]
 pub struct FnCtx {
     function: FunctionId,
     counters: Counters,
@@ -42,17 +42,23 @@ pub struct FnCtx {
     spans: [Span; MOST_BLOCKS],
 }
 
-// A clause sees the state of the walk.
+// A clause sees the state of the walk. What that does not show is blank (zeros behind the log's records, U64 behind the locals' types), so that
+// it gives the fields back, which Copy asks.
 impl Model for FnCtx {
     ghost use Rattle.lower_walk.specs.Stmts.{LogCtx};
 
     ghost Value = { LogCtx };
 
-    ghost use Rattle.lower_state.specs.State.{ctx_in, Sound};
+    ghost use Rattle.lower_state.specs.State.{ctx_in};
+    ghost use Rattle.lower_state.specs.Restored.{Restorable, ctx_back, ctx_restored};
 
     ghost view = { ctx_in };
 
-    ghost invariant = { Sound };
+    ghost invariant = { Restorable };
+
+    ghost inverse = { ctx_back };
+
+    ghost inverse_ok = { ctx_restored };
 }
 
 // A place of the log as a number of a span: one stands for all that are over the room.
@@ -92,12 +98,14 @@ impl FnCtx {
         }
     }
 
-    // The same for another function, in the same memory: the first block is the current one, and nothing is in the log. `new` makes the
-    // arrays, once for a contract, so it does not end in a call of this.
+    // The same for another function, in the same memory: the first block is the current one, and nothing is in the log. Only what the function
+    // before wrote is cleared. `new` makes the arrays, once for a contract, so it does not end in a call of this.
     pub fn begin(&mut self, function: FunctionId)
         ensures is { self.new ≡ new_ctx function.0 self.old.starts self.old.stops }
         ensures sizes { (length self.old.starts ≡ 256) × (length self.old.stops ≡ 256) }
     {
+        self.log[..self.to.unwrap_or(0)].fill(0);
+        self.locals[..self.counters.local as usize].fill(IrType::U64);
         self.function = function;
         self.counters = Counters::START;
         self.current = self.counters.next_block();

@@ -1,7 +1,8 @@
 // Records appended to the log, as bytes.
-ghost use Rattle.std.specs.Prelude.{◌≡◌, ◌+◌, ◌*◌, ◌≤◌, length};
+ghost use Rattle.std.specs.Prelude.{◌≡◌, ◌+◌, ◌*◌, ◌≤◌, length, Some};
 ghost use Rattle.definitions.specs.Fields.{bytes};
 ghost use Rattle.lower_state.specs.Bytes.{part_in, first_number, record_bytes, id_bytes, ids_of, Put, Added};
+ghost use Rattle.lower_state.specs.Restored.{ZerosBehind};
 
 use crate::{Log, Part};
 use format::{ABSENT, ID, KIND_BYTES, LENGTH_BYTES, MOST_BYTES, program};
@@ -40,7 +41,7 @@ fn put_ids(log: &mut Log, at: usize, ids: &[ValueId]) -> usize
 }
 
 // A record, if there is room for it: its size, its kind, the two bytes that its fields start with, up to three parts, and ids. The place
-// behind it.
+// behind it; a log without room is cleared.
 pub(crate) fn put_record(
     log: &mut Log,
     at: usize,
@@ -52,10 +53,12 @@ pub(crate) fn put_record(
     ids: &[ValueId],
 ) -> Option<usize>
     requires { length ids.now ≤ 16 }
-    ensures { Added log.old at (record_bytes kind first (part_in a) (part_in b) (part_in c) (ids_of ids.now)) log.new result }
+    ensures added { Added log.old at (record_bytes kind first (part_in a) (part_in b) (part_in c) (ids_of ids.now)) log.new result }
+    ensures zeros { ZerosBehind log.old (Some at) → ZerosBehind log.new result }
 {
     let size = program::OWN + a.width + b.width + c.width + ID * ids.len();
     if MOST_BYTES - size < at {
+        log.fill(0);
         return None;
     }
     let to = put(log, at, LENGTH_BYTES, size);

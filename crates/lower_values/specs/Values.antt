@@ -1,5 +1,5 @@
 -- The code's answers in the words of the walk. Assumes nothing: these are definitions.
-use Rattle.std.specs.Prelude.{◌≡◌}
+use Rattle.std.specs.Prelude.{◌≡◌, Result, OnErr}
 use Rattle.std.proofs.Math.Option.{Option, some}
 use Rattle.definitions.specs.Lower.{Value}
 use Rattle.format.specs.Contexts.{context_number}
@@ -9,6 +9,7 @@ use Rattle.ir.specs.declared.ValueId.{ValueId}
 use Rattle.lower_walk.specs.Log.{Log}
 use Rattle.lower_walk.specs.Stmts.{LogCtx, with_log}
 use Rattle.lower_walk.specs.Exprs.{Walked, Called, context, poseidon_call, user_call}
+use Rattle.lower_state.specs.declared.refusals.LoweringError.{LoweringError}
 use Rattle.lower_values.specs.declared.calls.Called as calls
 use Rattle.lower_values.specs.declared.calls.Called.TheVariants as called
 
@@ -25,6 +26,10 @@ gives_value l v = (l, some_value v)
 -- the log alone has changed
 abbrev pub LogAlone : LogCtx → LogCtx → Type 0
 LogAlone c d = d ≡ with_log d.log c
+
+-- a refusal leaves all but the log as it was
+abbrev pub LogAloneIfErr : {A : Type 0} → Result A LoweringError → (before after : LogCtx) → Type 0
+LogAloneIfErr r before after = OnErr r (LogAlone before after)
 
 -- what a name stands for in a call
 abbrev pub called_of : calls.Called → Called

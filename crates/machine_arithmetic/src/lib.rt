@@ -6,6 +6,7 @@ ghost use Rattle.definitions.specs.Ast as ast;
 ghost use Rattle.definitions.specs.Bench.{wrap, binary_word};
 ghost use Rattle.definitions.specs.Bench as bench;
 ghost use Rattle.definitions.specs.ContractSheet.{op_of};
+ghost use Rattle.definitions.specs.ProgramSheet.{binary_of};
 ghost use Rattle.format.specs.Operators.{operator_number};
 ghost use Rattle.machine_arithmetic.specs.Numbers.{word_or_stop};
 
@@ -59,4 +60,29 @@ pub fn compute(op: BinOp, a: u64, b: u64) -> Result<u64, ZeroDivisor>
         BinOp::Lte => Ok(flag(a <= b)),
         BinOp::Gte => Ok(flag(b <= a)),
     }
+}
+
+// The operator of a binary instruction's kind, Add to Gt; of any other it is Gte. The numbers stand here, since a pattern takes no cast.
+fn operator_of(kind: usize) -> BinOp
+    ensures { op_of (operator_number result) ≡ binary_of kind }
+{
+    match kind {
+        61 => BinOp::Add,
+        62 => BinOp::Sub,
+        63 => BinOp::Mul,
+        64 => BinOp::Div,
+        65 => BinOp::Eq,
+        66 => BinOp::Neq,
+        67 => BinOp::Lt,
+        68 => BinOp::Lte,
+        69 => BinOp::Gt,
+        _ => BinOp::Gte,
+    }
+}
+
+// The binary instruction of a kind, by the kind's number, on two words.
+pub fn compute_kind(kind: usize, a: u64, b: u64) -> Result<u64, ZeroDivisor>
+    ensures { word_or_stop result ≡ binary_word (binary_of kind) a b }
+{
+    compute(operator_of(kind), a, b)
 }

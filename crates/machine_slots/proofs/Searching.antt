@@ -110,6 +110,22 @@ not_in v (x ∷ xs) i h =
     let k : suc (length xs) ≤ suc (index_of v xs) = rw (q, index_of) at h in
     rw (q, searched) (not_in v xs (with_one i x) (omega arith)))
 
+-- the position that a search gives, or how many it has passed
+abbrev pub place_in : Result Tally ℕ → ℕ
+place_in (Ok i) = i.count
+place_in (Err p) = p
+
+index_from : (v : ℕ) (xs : List ℕ) (i : Tally) → place_in (searched i xs (some v)) ≡ i.count + index_of v xs
+unfolding searched index_of
+index_from v [] i = omega arith
+index_from v (x ∷ xs) i =
+    by_test (eqb x v)
+    (λ q. rw (q, searched, index_of) (omega arith))
+    (λ q. rw (q, searched, index_of) (index_from v xs (with_one i x) ∙ omega arith))
+
+pub index_told : (v : ℕ) (xs : List ℕ) → place_in (searched none_yet xs (some v)) ≡ index_of v xs
+index_told v xs = index_from v xs none_yet ∙ omega arith
+
 -- the tally of a search for none
 pub tally_is : {r : Result Tally ℕ} {t : Tally} (xs : List ℕ) → r ≡ searched none_yet xs none → r ≡ Ok t → t ≡ tally_of xs
 tally_is xs e z = let a = all_counted xs in cc

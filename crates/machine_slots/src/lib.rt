@@ -5,7 +5,7 @@
 ghost use Rattle.std.specs.Prelude.{◌≡◌, ◌+◌, ◌^◌, ◌<◌, leb, length};
 ghost use Rattle.ir.specs.Answers.{option_of};
 ghost use Rattle.program_nodes.specs.Nodes.{ir_of, block_in};
-ghost use Rattle.machine_slots.specs.Slots.{id_of, none_yet, passed, searched, block_results, value_ids, above_all, slot_in};
+ghost use Rattle.machine_slots.specs.Slots.{id_of, none_yet, passed, searched, block_results, value_ids, index_of, above_all, slot_in};
 
 use ir::ValueId;
 use program_nodes::{Block, Function, Record};
@@ -94,6 +94,16 @@ impl<'a> ValueIds<'a> {
         ensures { result ≡ leb self.entry.above self.entry.count }
     {
         self.above <= self.count
+    }
+
+    // The position of v among them; their count if it is none of them.
+    pub fn index_of(self, v: ValueId) -> usize
+        ensures { result ≡ index_of v.0 (value_ids (ir_of self.entry.function)) }
+    {
+        match search(self.function, Some(v)) {
+            Err(position) => position,
+            Ok(tally) => tally.count,
+        }
     }
 
     // The slot of v in the frame of their function, if it has one.

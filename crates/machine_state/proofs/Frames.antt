@@ -1,6 +1,6 @@
 -- What a store changes of what a frame's cells hold. Assumes nothing.
 use mathlib.Core.Path.{◌≡◌, sym, ◌∙◌}
-use mathlib.Core.List.{List, ◌∷◌}
+use mathlib.Core.List.{List, [], ◌∷◌}
 use mathlib.Core.Logic.{◌⊎◌, inl, inr}
 use mathlib.Core.Option.{Option, none, some}
 use Prim.Native.Nat.{ℕ, ◌+◌, ◌*◌, ◌^◌, ◌≤◌, ◌<◌}
@@ -10,11 +10,11 @@ use lib.Dec.{eqb, ltb}
 use lib.ListN.{length}
 use Rattle.definitions.specs.Bench.{Notes, word_at, bytes_for}
 use Rattle.definitions.proofs.Results.{by_test}
-use Rattle.machine_memory.specs.Cells.{cell_width, cell, stored, emptied}
-use Rattle.machine_memory.proofs.Cells.{stored_same, stored_apart, emptied_same, emptied_apart, length_stored, length_emptied}
+use Rattle.machine_memory.specs.Cells.{cell_width, cell, stored, emptied, cleared}
+use Rattle.machine_memory.proofs.Cells.{stored_same, stored_apart, emptied_same, emptied_apart, cleared_within, length_stored, length_emptied}
 use Rattle.machine_slots.specs.Slots.{Among, slot_for, one_of}
 use Rattle.machine_slots.proofs.Indices.{slot_low, slot_one, frame_bytes}
-use Rattle.machine_state.specs.Frames.{frame_function, frame_ids, CellWithin, value_cell, locals_base, local_cell, slot_place, held_at, InCells}
+use Rattle.machine_state.specs.Frames.{frame_function, frame_ids, Fits, CellWithin, value_cell, locals_base, local_cell, slot_place, held_at, InCells}
 use Rattle.machine_state.specs.declared.frame.Frame.{Frame}
 
 -- SLOT WORDS: what the cell of slot i of n holds
@@ -98,3 +98,21 @@ module _ {m after : List ℕ} {t : Frame} {values locals : Notes ℕ} (H : InCel
         value = as_before m after t.base (length (frame_ids t)) (slot_for (frame_ids t)) values H.value (λ i k. h (t.base + cell_width * i) (omega arith) (omega arith));
         local = as_before m after (locals_base t) (length (frame_function t).locals) (λ l. l) locals H.local (λ i k. h (locals_base t + cell_width * i) (omega arith) (omega arith));
       }
+
+-- A FRAME that was cleared holds nothing: first any n slots, of whatever function, that lie in the cleared bytes
+pub cleared_slots : (m : List ℕ) (base size : ℕ) → base + size ≤ length m → (p n i : ℕ) → base ≤ p → p + cell_width * n ≤ base + size → none ≡ slot_word (cleared m base size) p n i
+cleared_slots m base size h p n i x y =
+    by_test (ltb i n)
+    (λ q.
+    let k : i < n = ltb-true i n q in
+    sym (within (cleared m base size) p n i k ∙ cleared_within m base size (p + cell_width * i) h (omega arith) (omega arith)))
+    (λ q. sym (beyond (cleared m base size) p n i (ltb-false i n q)))
+
+pub nothing_held : (m : List ℕ) (t : Frame) → Fits (length m) t → InCells (cleared m t.base (bytes_for (frame_function t))) t [] []
+nothing_held m t h =
+    let b : ℕ = bytes_for (frame_function t) in
+    let e : bytes_for (frame_function t) ≡ 9 * (length (frame_ids t) + length (frame_function t).locals) = frame_bytes (frame_function t) in
+    record {
+      value = λ v. cleared_slots m t.base b h t.base (length (frame_ids t)) (slot_for (frame_ids t) v) (omega arith) (omega arith);
+      local = λ l. cleared_slots m t.base b h (locals_base t) (length (frame_function t).locals) l (omega arith) (omega arith);
+    }

@@ -1,7 +1,7 @@
 // What an answer says, as numbers: for C and Rust to read, and for the line that is printed. Each operation has the numbers of its own cases.
 #![tactic(auto)]
 
-ghost use Rattle.std.specs.Prelude.{◌≡◌, ◌≤◌, length};
+ghost use Rattle.std.specs.Prelude.{◌≡◌, ◌≤◌, length, take};
 ghost use Rattle.definitions.specs.Answers.{numbers_of, padded};
 ghost use Rattle.definitions.specs.Result.{err, Done};
 ghost use Rattle.sheet.specs.Forms.{refusal_of};
@@ -51,6 +51,16 @@ impl Numbers {
             count: N,
             list: all,
         }
+    }
+
+    // The first `count` numbers of a list: all six where it says more.
+    pub fn first(count: usize, list: [usize; MOST_NUMBERS]) -> Numbers
+        ensures { result ≡ take count list }
+    {
+        let count = count.min(MOST_NUMBERS);
+        let mut all = [0; MOST_NUMBERS];
+        all[..count].copy_from_slice(&list[..count]);
+        Numbers { count, list: all }
     }
 
     // The numbers, six at most.

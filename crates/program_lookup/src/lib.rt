@@ -95,11 +95,11 @@ pub fn defined_type(f: Function<'_>, v: ValueId) -> Option<IrType>
     first_definition(f, v)?.ty()
 }
 
-// Whether the first definition of v stands at `place`.
+// Whether the first definition of v stands at `place`; a value that isn't defined stands at 0.
 pub fn is_first_definition(f: Function<'_>, v: ValueId, place: usize) -> bool
     ensures { result ≡ is_at (first_definition v.0 (definitions_of f.entry)) place }
 {
-    first_definition(f, v).is_some_and(|definition| definition.place() == place)
+    first_definition(f, v).map_or(0, |definition| definition.place()) == place
 }
 
 // The first block of the function with the id.

@@ -34,10 +34,7 @@ use Rattle.program_nodes.specs.declared.instr.Instr.{Instr}
 use Rattle.program_nodes.specs.declared.term.Term.{Term}
 use Rattle.sheet.proofs.Standing.{kept}
 use Rattle.program_nodes.proofs.Walk.{instr_alone, term_alone}
-use Rattle.program_nodes.proofs.FunctionSteps.{ProgramAt, program_at, function_here_is}
-
-pub program_is : (p : Program) → ProgramAt p.sheet.now
-program_is p = program_at p.sheet.now p.passed
+use Rattle.program_nodes.proofs.FunctionSteps.{function_here_is}
 
 pub function_is : (f : Function) → FunctionHere f.program.sheet.now f.at f.first f.stop f.name.0
 function_is f = function_here_is f.here

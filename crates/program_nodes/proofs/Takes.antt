@@ -1,5 +1,5 @@
 -- The first of a list of nodes is taken. Assumes nothing.
-use mathlib.Core.Path.{◌≡◌, refl, ap}
+use mathlib.Core.Path.{◌≡◌, refl, ap, sym, ◌∙◌}
 use mathlib.Core.List.{List, [], ◌∷◌}
 use Prim.Native.Nat.{ℕ, zero, suc, ◌+◌, ◌-◌}
 use native.Mathlib.Numerals.{sub-one}
@@ -33,6 +33,8 @@ pub first_block : {old new : Blocks} {b : Block} → BlockStep old.sheet.now old
 first_block B s a e ns na ne = record {
   is = rw (s, a, e, ns, na, ne) (blocks_step B);
   definitions = rw (s, a, e, ns, na, ne) (blocks_definitions_lem B);
+  at = a;
+  next = na ∙ sym e;
   sheet = s;
   rest_sheet = ns;
   end = ne;

@@ -1,5 +1,5 @@
 -- The definitions of a function's values in their order, each with its place. Assumes nothing: these are definitions.
-use Rattle.std.specs.Prelude.{ℕ, ◌+◌, Bool, false, List, [], ◌∷◌, ◌++◌, leb, eqb}
+use Rattle.std.specs.Prelude.{ℕ, ◌+◌, Bool, List, [], ◌∷◌, ◌++◌, leb, eqb}
 use Rattle.std.proofs.Math.Option.{Option, none, some}
 use Rattle.definitions.specs.Ir.{IrType, Instruction, result_type}
 use Rattle.definitions.specs.Records.{pick, Tree, node, Trees, tnil, tcons}
@@ -50,7 +50,10 @@ type_of_definition (some d) = d.type
 abbrev pub first_type : ℕ → List Definition → Option IrType
 first_type v ds = type_of_definition (first_definition v ds)
 
--- whether there is one, and it stands at p
+-- its place, 0 if there is none, and whether that is p
+abbrev pub definition_place : Option Definition → ℕ
+definition_place none = 0
+definition_place (some d) = d.place
+
 abbrev pub is_at : Option Definition → ℕ → Bool
-is_at none p = false
-is_at (some d) p = eqb d.place p
+is_at o p = eqb (definition_place o) p

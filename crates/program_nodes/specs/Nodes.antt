@@ -215,6 +215,8 @@ TakesParam old new (Some p) = FirstParam old new p
 pub record FirstBlock (old new : Blocks) (b : Block) : Type 0 where
   pub is : blocks_in old ≡ block_in b ∷ blocks_in new
   pub definitions : blocks_definitions_in old ≡ block_definitions_of b ++ blocks_definitions_in new
+  pub at : b.at ≡ old.at
+  pub next : new.at ≡ b.stop
   pub sheet : b.sheet.now ≡ old.sheet.now
   pub rest_sheet : new.sheet.now ≡ old.sheet.now
   pub end : new.end ≡ old.end

@@ -27,7 +27,7 @@ abbrev pub InBlockStand : List ℕ → (at end : ℕ) → Type 0
 InBlockStand = Stand (many Class.instruction (perhaps Class.terminator done))
 
 abbrev pub BlockStands : List ℕ → (at stop : ℕ) → Type 0
-BlockStands s at stop = InBlockStand s (at + records_at) stop × (at + records_at ≤ stop)
+BlockStands s at stop = InBlockStand s (at + records_at) stop × (at + records_at ≤ stop) × (stop ≡ stop_of s at)
 
 -- an instruction and a terminator
 abbrev pub InstrStands : List ℕ → (at stop : ℕ) → Type 0

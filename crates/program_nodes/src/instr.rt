@@ -95,6 +95,13 @@ impl<'a> Instr<'a> {
         read(self.sheet, self.at + offset, bytes)
     }
 
+    // The number of its kind.
+    pub fn kind_number(self) -> u16
+        ensures { result ≡ record_kind self.entry.sheet.now self.entry.at }
+    {
+        self.id(KIND)
+    }
+
     // Its kind.
     pub fn kind(self) -> kinds::Instruction
         ensures is { instr_number result ≡ record_kind self.entry.sheet.now self.entry.at }

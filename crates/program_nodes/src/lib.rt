@@ -10,5 +10,5 @@ pub mod term; // terminators and what they are
 
 pub use block::{Block, Blocks, Record, Records};
 pub use instr::{Ids, Instr, Instruction};
-pub use program::{Function, Functions, Param, Params, Program};
+pub use program::{Function, Functions, Param, Params, Program, function_at};
 pub use term::{Term, Terminator};

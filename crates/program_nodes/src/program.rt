@@ -1,9 +1,8 @@
 // The program, its functions and their parameters.
-ghost use Rattle.std.specs.Prelude.{◌≡◌, ◌+◌, ◌-◌, ◌*◌, ◌≤◌, length};
-ghost use Rattle.definitions.specs.Records.{Good};
-ghost use Rattle.definitions.specs.ProgramSheet.{refusal40};
-ghost use Rattle.sheet.specs.Passed.{record_kind, stop_of};
-ghost use Rattle.program_nodes.specs.Positions.{locals_at, first_block};
+ghost use Rattle.std.specs.Prelude.{◌≡◌, ◌+◌, ◌-◌, ◌*◌, ◌≤◌, ◌<◌, length};
+ghost use Rattle.sheet.specs.Passed.{record_kind};
+ghost use Rattle.program_nodes.specs.Offsets.{head_width};
+ghost use Rattle.program_nodes.specs.Positions.{locals_at};
 ghost use Rattle.program_nodes.specs.Standing.{FunctionsStand, FunctionStands};
 
 use crate::block::Blocks;
@@ -13,11 +12,11 @@ use ir::{FunctionId, IrType, Name, ValueId};
 use reader::{read, read_u16};
 use sheet::Malformed;
 
-// A program sheet that passed 40.
+// A program sheet: its functions and names stand behind the head, as they do in one that passed 40.
 #[derive(Clone, Copy)]
 pub struct Program<'a> {
     pub sheet: &'a [u8],
-    pub ghost passed: { refusal40 sheet.now ≡ Good },
+    pub ghost passed: { FunctionsStand sheet.now head_width },
 }
 
 // The functions of a program from a place on.
@@ -60,6 +59,7 @@ pub struct Param<'a> {
 
 impl<'a> Program<'a> {
     ghost use Rattle.std.specs.Prelude.{IfOk};
+    ghost use Rattle.definitions.specs.ProgramSheet.{refusal40};
     ghost use Rattle.sheet.specs.Forms.{form_of};
     ghost use Rattle.program_nodes.specs.Nodes.{functions_in, functions_of};
 
@@ -117,9 +117,8 @@ impl<'a> Iterator for Functions<'a> {
 }
 
 // The function that stands at a place.
-fn function_at(program: Program<'_>, at: usize) -> Function<'_>
-    requires stands { FunctionsStand program.sheet.now at × (record_kind program.sheet.now at ≡ 51) }
-    requires room { (first_block program.sheet.now at ≤ stop_of program.sheet.now at) × (stop_of program.sheet.now at ≤ length program.sheet.now) }
+pub fn function_at(program: Program<'_>, at: usize) -> Function<'_>
+    requires { FunctionsStand program.sheet.now at × ((at < length program.sheet.now) × (record_kind program.sheet.now at ≡ 51)) }
     ensures { (result.program.sheet.now ≡ program.entry.sheet.now) × (result.at ≡ at) }
 {
     let s = program.sheet;

@@ -40,7 +40,7 @@ pub(crate) fn record_kind(s: &[u8], at: usize, stop: usize) -> Kind
 }
 
 // Where the children of a record start.
-pub(crate) fn body_of(s: &[u8], at: usize, stop: usize, kind: Kind) -> usize
+pub fn body_of(s: &[u8], at: usize, stop: usize, kind: Kind) -> usize
     requires { Standing s.now at stop (kind_number kind) }
     ensures { result ≡ body_of s.now at }
 {

@@ -117,7 +117,8 @@ fn past_type(s: &[u8], at: usize, stop: usize) -> Option<usize>
     type_valid(s, at).then_some(next)
 }
 
-// The same for a count and so many entries.
+// The same for a count and so many entries. Not inlined, as `past_each`.
+#[inline(never)]
 #[tactic(auto, unfolding(definitions::specs::Records::past, definitions::specs::Records::ok_field, definitions::specs::Records::field_end))]
 fn past_counted(s: &[u8], at: usize, stop: usize, entry: Entry) -> Option<usize>
     requires { Extent s.now at stop }
@@ -129,7 +130,8 @@ fn past_counted(s: &[u8], at: usize, stop: usize, entry: Entry) -> Option<usize>
     entry.all_valid(s, first, count).then_some(next)
 }
 
-// The same for entries to the record's end.
+// The same for entries to the record's end. Not inlined, as `past_each`.
+#[inline(never)]
 #[tactic(auto, unfolding(definitions::specs::Records::past, definitions::specs::Records::ok_field, definitions::specs::Records::field_end))]
 fn past_listed(s: &[u8], at: usize, stop: usize, entry: Entry) -> Option<usize>
     requires { Extent s.now at stop }
@@ -164,8 +166,9 @@ fn past_field(s: &[u8], at: usize, stop: usize, field: Field) -> Option<usize>
     }
 }
 
-// The place after all fields.
-pub fn past_fields(s: &[u8], at: usize, stop: usize, fields: &[Field]) -> Option<usize>
+// The place after all of several fields. Not inlined: what a walk over them needs is in no level of `records` then, which takes a third less stack.
+#[inline(never)]
+fn past_each(s: &[u8], at: usize, stop: usize, fields: &[Field]) -> Option<usize>
     requires { Extent s.now at stop }
     ensures { option_of (λ p. p) result ≡ past_all (fields_of fields.now) s.now stop at }
 {
@@ -174,4 +177,17 @@ pub fn past_fields(s: &[u8], at: usize, stop: usize, fields: &[Field]) -> Option
         place = past_field(s, place, stop, field)?;
     }
     Some(place)
+}
+
+// The place after all fields. Most records have one.
+#[tactic(auto, unfolding(definitions::specs::Records::past_all))]
+pub fn past_fields(s: &[u8], at: usize, stop: usize, fields: &[Field]) -> Option<usize>
+    requires { Extent s.now at stop }
+    ensures { option_of (λ p. p) result ≡ past_all (fields_of fields.now) s.now stop at }
+{
+    match fields {
+        [] => Some(at),
+        &[field] => past_field(s, at, stop, field),
+        _ => past_each(s, at, stop, fields),
+    }
 }

@@ -1,5 +1,5 @@
 -- The answer to a sheet: too long, malformed, or what the functions give. Assumes nothing.
-use mathlib.Core.Path.{◌≡◌, ap}
+use mathlib.Core.Path.{◌≡◌, ap, sym}
 use mathlib.Core.List.{List, [], ◌∷◌}
 use Prim.Native.Nat.{ℕ, ◌≤◌, ◌<◌}
 use lib.ListN.{length}
@@ -25,18 +25,15 @@ module _ (s : List ℕ) where
     unfolding verify_sheet
     malformed p e = rw (le-leb (length s) 32768 h, ← e)
 
-    module _ (p : Program) (same : p.sheet.now ≡ s) where
+    module _ (p : Program) (same : p.sheet.now ≡ s) (form : Good ≡ refusal40 s) where
       program_is : verify_program (read_program s) ≡ verify_functions (functions_of p) (ids_of_all p)
       unfolding verify_program functions_here
-      program_is = rw (← same) (ap (λ (fs : List IrFunction). verify_functions fs (function_ids fs)) (program_at p.sheet.now p.passed).functions)
-
-      form_is : refusal40 s ≡ Good
-      form_is = rw same at p.passed
+      program_is = rw same (ap (λ (fs : List IrFunction). verify_functions fs (function_ids fs)) (program_at s (sym form)).functions)
 
       pub accepted : ok tt ≡ verify_functions (functions_of p) (ids_of_all p) → ok [] ≡ verify_sheet s
       unfolding verify_sheet
-      accepted f = rw (le-leb (length s) 32768 h, form_is, program_is, ← f)
+      accepted f = rw (le-leb (length s) 32768 h, ← form, program_is, ← f)
 
       pub refused : {x : ℕ × VerifyError} → err x ≡ verify_functions (functions_of p) (ids_of_all p) → err (verify_refusal x) ≡ verify_sheet s
       unfolding verify_sheet
-      refused f = rw (le-leb (length s) 32768 h, form_is, program_is, ← f)
+      refused f = rw (le-leb (length s) 32768 h, ← form, program_is, ← f)

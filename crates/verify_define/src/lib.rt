@@ -28,7 +28,7 @@ fn define_result(f: Function<'_>, instr: Instr<'_>) -> Result<(), VerifyError>
         return Ok(());
     };
     let Some(_) = instr.result_type() else {
-        return Err(VerifyError::ResultOnNone(f.name, instr.kind()));
+        return Err(VerifyError::ResultOnNone(f.name, instr.kind_number()));
     };
     let first = program_lookup::is_first_definition(f, value, instr.at);
     if !first {

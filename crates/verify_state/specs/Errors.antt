@@ -3,7 +3,6 @@ use Rattle.std.specs.Prelude.{ℕ, Result}
 use Rattle.definitions.specs.Result as defs
 use Rattle.definitions.specs.Result.{err, ok, Done}
 use Rattle.definitions.specs.Verify as rules
-use Rattle.format.specs.Kinds.{instr_number}
 use Rattle.ir.specs.Types.{as_type}
 use Rattle.ir.specs.Answers.{option_of, done_of}
 use Rattle.verify_state.specs.declared.VerifyError.{VerifyError}
@@ -20,7 +19,7 @@ error_of (BranchConditionNotBool f v t) = (f.0, rules.VerifyError.BranchConditio
 error_of (OperandTypeMismatch f l r) = (f.0, rules.VerifyError.OperandTypeMismatch (as_type l) (as_type r))
 error_of (UndefinedLocal f l) = (f.0, rules.VerifyError.UndefinedLocal l.0)
 error_of (UndefinedFunction f g) = (f.0, rules.VerifyError.UndefinedFunction g.0)
-error_of (ResultOnNone f k) = (f.0, rules.VerifyError.ResultOnNone (instr_number k))
+error_of (ResultOnNone f k) = (f.0, rules.VerifyError.ResultOnNone k)
 
 -- a part's answer: nothing, or an error with its function's name
 abbrev pub Outcome : Type 0

@@ -1,12 +1,11 @@
 // Why the verifier refuses.
 #![tactic(auto)]
 
-use format::kinds;
 use ir::{BlockId, FunctionId, IrType, LocalId, Name, ValueId};
 use thiserror::Error;
 
 // The Rust's `VerifyError`: each variant has the function's name, as the Rust's have, and here it stands first. `ResultOnNone` takes the place of a
-// panic and has the instruction's kind. The texts have the numbers of names and ids, as the Rust's have: its ids have no Display.
+// panic and has the number of the instruction's kind. The texts have the numbers of names and ids, as the Rust's have: its ids have no Display.
 #[derive(Clone, Copy, Debug, Error)]
 pub enum VerifyError {
     #[error("fn {}: undefined value %{}", .0.0, .1.0)]
@@ -27,6 +26,6 @@ pub enum VerifyError {
     UndefinedLocal(Name, LocalId),
     #[error("fn {}: call to undefined function id {}", .0.0, .1.0)]
     UndefinedFunction(Name, FunctionId),
-    #[error("fn {}: an instruction of kind {} gives no result", .0.0, *.1 as u16)]
-    ResultOnNone(Name, kinds::Instruction),
+    #[error("fn {}: an instruction of kind {} gives no result", .0.0, .1)]
+    ResultOnNone(Name, u16),
 }

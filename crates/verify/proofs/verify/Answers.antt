@@ -14,8 +14,10 @@ returns-in_err-program c =
     rw (exit c.from_residual.ensures.1) (malformed c.args.sheet.now (omega (arith, c.if-sheet-gt-MOST_BYTES.false)) _ c.in_err-program.ensures.is)
 
 pub returns-in_err-verify_program : goal.returns-in_err-verify_program
+unfolding form_of
 returns-in_err-verify_program c =
-    rw (exit c.from_residual-in_err-verify_program.ensures.1) (refused c.args.sheet.now (omega (arith, c.if-sheet-gt-MOST_BYTES.false)) c.in_ok-program.program c.in_ok-program.ensures.same_sheet c.in_err-verify_program.ensures)
+    rw (exit c.from_residual-in_err-verify_program.ensures.1) (refused c.args.sheet.now (omega (arith, c.if-sheet-gt-MOST_BYTES.false)) c.in_ok-program.program c.in_ok-program.ensures.same_sheet c.in_ok-program.ensures.is c.in_err-verify_program.ensures)
 
 pub returns : goal.returns
-returns c = accepted c.args.sheet.now (omega (arith, c.if-sheet-gt-MOST_BYTES.false)) c.in_ok-program.program c.in_ok-program.ensures.same_sheet c.in_ok-verify_program.ensures
+unfolding form_of
+returns c = accepted c.args.sheet.now (omega (arith, c.if-sheet-gt-MOST_BYTES.false)) c.in_ok-program.program c.in_ok-program.ensures.same_sheet c.in_ok-program.ensures.is c.in_ok-verify_program.ensures

@@ -8,7 +8,7 @@ pub returns-in_default : goal.returns-in_default
 returns-in_default c = no_result c.args.f _ _ c.in_default.ensures
 
 pub returns-in_default-result_type : goal.returns-in_default-result_type
-returns-in_default-result_type c = result_on_none c.args.f _ _ c.in-Some.ensures (c.kind.ensures.is ∙ kind_is c.args.instr) c.in_default-result_type.ensures
+returns-in_default-result_type c = result_on_none c.args.f _ _ c.in-Some.ensures (c.kind_number.ensures ∙ kind_is c.args.instr) c.in_default-result_type.ensures
 
 pub returns-then-not-first : goal.returns-then-not-first
 returns-then-not-first c = result_twice c.args.f _ _ c.in-Some.ensures c.in-Some-result_type.ensures (λ z. both_ways _ c.if-not-first.true (c.is_first_definition-first.ensures ∙ z))

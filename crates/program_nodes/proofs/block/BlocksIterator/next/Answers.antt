@@ -24,7 +24,7 @@ pub invariant_of-result : goal.invariant_of-result
 invariant_of-result c =
     let w = c.args.self.now in
     let B = block_here_lem (kept w.here.0) c.if-self-at.false in
-    record { here = rw c.read.ensures.0 ((good B.records, omega (arith, B.high, w.here.1)), B.low) }
+    record { here = rw c.read.ensures.0 ((good B.records, omega (arith, B.high, w.here.1)), B.low, refl) }
 
 pub returns-clause-steps : goal.returns-clause-steps
 returns-clause-steps c =

@@ -6,7 +6,7 @@ use lib.ListN.{length}
 use borrow.Author.Rules.{rules}
 use Rattle.sheet.proofs.Standing.{good, kept}
 use Rattle.sheet.specs.Passed.{record_kind}
-use Rattle.program_nodes.proofs.FunctionSteps.{head_there, no_functions, function_fits}
+use Rattle.program_nodes.proofs.FunctionSteps.{head_there, no_functions}
 use Rattle.program_nodes.proofs.Facts.{function_is}
 use Rattle.program_nodes.proofs.Takes.{first_function}
 use Rattle.program_nodes.proofs.program.FunctionsIterator.next.Goals as goal
@@ -27,7 +27,7 @@ pub function_at-function-requires : goal.function_at-function-requires
 function_at-function-requires c =
     let w = c.args.self.now in
     let k : record_kind w.program.sheet.now w.at ≡ 51 = sym c.read_u16.ensures ∙ (c.if-read_u16-from.false ∙ c.from.ensures) in
-    record { stands = (w.here, k); room = function_fits (kept w.here) (omega (arith, c.len.ensures, c.if-len-at.false)) k }
+    (w.here, (omega (arith, c.len.ensures, c.if-len-at.false), k))
 
 pub invariant_of-self : goal.invariant_of-self
 invariant_of-self c = let F = function_is c.function_at-function.result in record { here = rw (← c.function_at-function.ensures.0) (good F.next) }
